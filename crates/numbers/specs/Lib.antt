@@ -1,0 +1,4 @@
+-- The definitions of `numbers`.
+pub mod Number
+pub mod Refusals
+pub mod Promise

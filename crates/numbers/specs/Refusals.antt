@@ -1,0 +1,73 @@
+-- The numbers returned and the order in which they apply, as data. "Each is given when its row holds and otherwise not." Assumes nothing.
+use Prim.Native.Nat.{ℕ}
+use mathlib.Core.Bool.{Bool, false, cond}
+use mathlib.Core.List.{List, [], _∷_}
+use lib.Dec.{eqb}
+use Rattle.numbers.specs.declared.answer.Answer.{Answer}
+use Rattle.numbers.specs.declared.answer.Rows.{Rows}
+
+-- one row: its number, and whether it holds
+pub record Row : Type 0 where
+  pub number : ℕ
+  pub holds : Bool
+
+abbrev pub row : ℕ → Bool → Row
+row n t = record { number = n; holds = t }
+
+-- "Order where several apply: 13, 1, 3, 2, 11, 12, then 4, 5, 6, 7; 8, 9, 10 and 14 come last"
+abbrev pub table : Rows → List Row
+table r =
+    row 13 (r .limit)
+    ∷ row 1 (r .incoherent)
+    ∷ row 3 (r .bits)
+    ∷ row 2 (r .range)
+    ∷ row 11 (r .reader)
+    ∷ row 12 (r .ahead)
+    ∷ row 4 (r .payload)
+    ∷ row 5 (r .«used_up»)
+    ∷ row 6 (r .«would_block»)
+    ∷ row 7 (r .«store_full»)
+    ∷ row 8 (r .«readers_full»)
+    ∷ row 9 (r .«gaps_full»)
+    ∷ row 10 (r .«frags_full»)
+    ∷ row 14 (r .nothing)
+    ∷ []
+
+-- the number of the first row that holds, or 0
+abbrev pub firstOf : List Row → ℕ
+firstOf [] = 0
+firstOf (r ∷ rs) = cond (r .holds) (r .number) (firstOf rs)
+
+-- the answer, by the table alone
+abbrev pub answerOf : Rows → Answer
+answerOf r = record { number = firstOf (table r) }
+
+abbrev pub done : Answer
+done = record { number = 0 }
+
+abbrev pub isDone : Answer → Bool
+isDone a = eqb (a .number) 0
+
+-- no row holds: a call names the rows that it can be refused by
+abbrev pub noRows : Rows
+noRows =
+    record {
+      limit = false;
+      incoherent = false;
+      bits = false;
+      range = false;
+      reader = false;
+      ahead = false;
+      payload = false;
+      «used_up» = false;
+      «would_block» = false;
+      «store_full» = false;
+      «readers_full» = false;
+      «gaps_full» = false;
+      «frags_full» = false;
+      nothing = false;
+    }
+
+-- what comes of a call: where a row holds, what the refusal leaves; else what is done
+abbrev pub unless : {A : Type 0} → Rows → (Answer → A) → A → A
+unless r refused d = cond (isDone (answerOf r)) d (refused (answerOf r))

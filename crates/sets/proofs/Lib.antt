@@ -1,0 +1,5 @@
+pub mod Bools
+pub mod Has
+pub mod Smallest
+pub mod Those
+pub mod Ext

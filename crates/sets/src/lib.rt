@@ -1,0 +1,1 @@
+// The vocabulary of sets: definitions in specs/, their laws in proofs/. It has no code.
