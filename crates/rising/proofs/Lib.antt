@@ -1,0 +1,4 @@
+pub mod Lists
+pub mod Scans
+pub mod Rooms
+pub mod Inserts

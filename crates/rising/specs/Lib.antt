@@ -1,0 +1,2 @@
+-- The definitions of `rising`.
+pub mod Runs

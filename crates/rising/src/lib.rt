@@ -1,0 +1,4 @@
+// Rising numbers in lent room.
+pub mod merge;
+pub mod room;
+pub mod run;
