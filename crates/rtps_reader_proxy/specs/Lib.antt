@@ -1,0 +1,2 @@
+-- The definitions of `rtps_reader_proxy`.
+pub mod Reader

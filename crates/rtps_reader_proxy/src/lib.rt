@@ -1,0 +1,1 @@
+// One reader as the writer keeps it.
