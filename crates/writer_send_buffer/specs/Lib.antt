@@ -1,0 +1,2 @@
+-- The definitions of `writer_send_buffer`.
+pub mod Flow
