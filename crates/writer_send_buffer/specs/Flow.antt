@@ -6,8 +6,8 @@ use mathlib.Core.List.{List, [], _∷_}
 use lib.Dec.{ltb, leb, eqb}
 use Rattle.numbers.specs.Number.{topNumber}
 use Rattle.numbers.specs.declared.answer.Rows.{Rows}
-use Rattle.writer_send_buffer.specs.declared.flow.Kind.{Kind}
-use Rattle.writer_send_buffer.specs.declared.flow.Limits.{Limits}
+use Rattle.writer_send_buffer.specs.declared.limits.Kind.{Kind}
+use Rattle.writer_send_buffer.specs.declared.limits.Limits.{Limits}
 
 pub record Flow : Type 0 where
   pub last : ℕ
