@@ -1,7 +1,7 @@
 -- The scans: what is left to read, from i on. Assumes nothing.
-use Prim.Native.Nat.{ℕ, zero, suc, _+_, _-_, _≤_, _<_}
+use Prim.Native.Nat.{ℕ, zero, suc, _+_, _-_, _≤_, _<_, min}
 use mathlib.Core.Path.{_≡_, refl, sym, ap, _∙_}
-use mathlib.Core.Bool.{Bool, true, false, _&&_}
+use mathlib.Core.Bool.{Bool, true, false, _&&_, _||_}
 use mathlib.Core.Logic.{_⊎_, inl, inr}
 use mathlib.Core.List.{List, [], _∷_}
 use native.Mathlib.Omega.{arith}
@@ -9,8 +9,9 @@ use lib.Dec.{ltb, leb, eqb}
 use lib.Bits.{bitOr, or-add-and, and-le-l, and-le-r}
 use lib.ListN.{length, take, drop, getD, length-drop}
 use lib.Seq.{take-all}
-use borrow.Author.Tests.{eqb-true, eqb-false, eq-eqb, ne-eqb, le-leb, lt-leb}
-use Rattle.sets.proofs.Bools.{decide}
+use borrow.Author.Tests.{eqb-true, eqb-false, eq-eqb, ne-eqb, le-leb, lt-leb, leb-true, leb-false}
+use Rattle.sets.specs.Sets.{has}
+use Rattle.sets.proofs.Bools.{decide, or-assoc}
 use Rattle.numbers.specs.Number.{topNumber}
 use Rattle.rising.specs.Runs.{risesAbove, zeros, runOk, holdsAt}
 use Rattle.rising.proofs.Lists.{here, done}
@@ -67,3 +68,21 @@ pub holds-out : (n : ℕ) (l : List ℕ) (i : ℕ) → length l ≤ i → false 
 holds-out n [] i h = refl
 holds-out n (m ∷ ms) zero h = absurd (omega arith)
 holds-out n (m ∷ ms) (suc i) h = holds-out n ms i (omega arith)
+
+-- whether n is among them
+pub has-more : (s : List ℕ) (n i : ℕ) (found : Bool) → i < length s → has s n ≡ (found || has (drop i s) n) → has s n ≡ ((found || eqb (getD s i 0) n) || has (drop (i + 1) s) n)
+has-more s n i found h e = e ∙ ap (λ (l : List ℕ). found || has l n) (here s i h) ∙ sym (or-assoc found (eqb (getD s i 0) n) (has (drop (i + 1) s) n))
+
+pub has-end : (s : List ℕ) (n i : ℕ) (found : Bool) → length s ≤ i → has s n ≡ (found || has (drop i s) n) → found ≡ has s n
+has-end s n i found h e = sym (e ∙ ap (λ (l : List ℕ). found || has l n) (done s i h) ∙ or-none found)
+  where
+    or-none : (b : Bool) → (b || false) ≡ b
+    or-none true = refl
+    or-none false = refl
+
+pub take-min : (c : ℕ) (s : List ℕ) → take (min c (length s)) s ≡ take c s
+take-min c s = go (leb c (length s)) refl
+  where
+    go : (t : Bool) → leb c (length s) ≡ t → take (min c (length s)) s ≡ take c s
+    go true e = let w = leb-true c (length s) e in let z : min c (length s) ≡ c = omega arith in ap (λ (k : ℕ). take k s) z
+    go false e = let w = leb-false c (length s) e in take-all (min c (length s)) s (omega arith) ∙ sym (take-all c s (omega arith))

@@ -2,3 +2,6 @@
 pub mod merge;
 pub mod room;
 pub mod run;
+pub mod set;
+
+pub use set::RisingSet;

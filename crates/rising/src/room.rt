@@ -2,10 +2,18 @@
 ghost use mathlib.Core.Path.{_≡_};
 ghost use Prim.Native.Nat.{_≤_, _<_, _+_};
 ghost use lib.ListN.{length, take};
-ghost use Rattle.sets.specs.Sets.{smallest};
+ghost use Rattle.sets.specs.Sets.{has, smallest};
 ghost use Rattle.numbers.specs.Promise.{Gives1};
 ghost use Rattle.rising.specs.Runs.{inRoom, cutOut, openedWithin, putIn, over, removed, fromOn, before, insertWithin, newest};
 use crate::run;
+
+// Whether n is in the run.
+pub fn holds(s: &[u64], count: usize, n: u64) -> bool
+    ensures { λ r. ⌜ r ≡ has (take count (now (s .entry))) n ⌝ }
+{
+    let end = run::smaller(count, s.len());
+    run::contains(&s[..end], n)
+}
 
 // The run without the k numbers from i on.
 pub fn cut(s: &mut [u64], count: usize, i: usize, k: usize) -> usize

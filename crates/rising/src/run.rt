@@ -3,6 +3,7 @@ ghost use mathlib.Core.Path.{_≡_};
 ghost use mathlib.Core.List.{_++_};
 ghost use Prim.Native.Nat.{min, _-_};
 ghost use lib.ListN.{length, take, drop, replicate};
+ghost use Rattle.sets.specs.Sets.{has};
 ghost use Rattle.rising.specs.Runs.{risesAbove, zeros, runOk, placeOf, holdsAt};
 
 // Whether the numbers rise strictly, all above `above` and none above 2 ^ 63 - 2. No early exit.
@@ -44,6 +45,19 @@ pub fn run_ok(s: &[u64], count: usize, above: u64) -> bool
     let good = rises(&s[..count], above);
     let clear = all_zero(&s[count..]);
     good & clear
+}
+
+// Whether n is among the numbers.
+pub fn contains(s: &[u64], n: u64) -> bool
+    ensures { λ r. ⌜ r ≡ has (now (s .entry)) n ⌝ }
+{
+    let mut found = false;
+    let mut i = 0;
+    while i < s.len() {
+        found = found | (s[i] == n);
+        i += 1;
+    }
+    found
 }
 
 // How many numbers at the start are below n.
