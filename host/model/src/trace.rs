@@ -29,14 +29,21 @@ impl Trace {
     pub fn answer(&mut self, line: &[u8]) -> String {
         self.lines += 1;
         let answer = answer_number(&self.follow(line));
-        let (last, first, acked) = match &self.writer {
-            Some(w) => (w.buffer.flow.last, w.buffer.flow.first, w.buffer.flow.acked),
-            None => (0, 0, 0),
-        };
+        let [last, first, acked] = self.figures();
         format!(
             "{} answer={} last={} first={} acked={}",
             self.lines, answer, last, first, acked
         )
+    }
+
+    /// Last, first and acked; zeros until `op=new` is accepted.
+    pub fn figures(&self) -> [i64; 3] {
+        let flow = self.writer.as_ref().map(|w| &w.buffer.flow);
+        flow.map_or([0; 3], |f| [f.last, f.first, f.acked])
+    }
+
+    pub fn is_started(&self) -> bool {
+        self.writer.is_some()
     }
 
     fn follow(&mut self, line: &[u8]) -> Answer<()> {

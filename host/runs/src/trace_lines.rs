@@ -1,38 +1,55 @@
 //! Random lines for the trace program: mostly right ones, so that the writer
 //! gets somewhere, and damaged ones among them.
 
+use model::trace::Trace;
+
 use crate::prng::Prng;
 
-/// Keeps roughly where the writer stands, so that numbers are near the edge.
+/// Follows its own lines by the model, so that numbers are near the edges.
 pub struct TraceLines {
     prng: Prng,
-    writes: u64,
-    started: bool,
+    trace: Trace,
+    /// Some traces ask for fragments at every second line, to fill the slots.
+    extra_frags: bool,
 }
 
 impl TraceLines {
     pub fn new(seed: u64) -> Self {
+        let mut prng = Prng::of_world(seed, 0);
         TraceLines {
-            prng: Prng::new(seed),
-            writes: 0,
-            started: false,
+            extra_frags: prng.one_in(6),
+            prng,
+            trace: Trace::default(),
         }
     }
 
     /// The next line with its newline.
     pub fn next_line(&mut self) -> Vec<u8> {
-        let line = if self.started && !self.prng.one_in(60) {
+        let odd = self.prng.one_in(40);
+        let line = if self.trace.is_started() != odd {
             self.step()
         } else {
-            self.started = true;
             self.new_line()
         };
         let mut bytes = line.into_bytes();
         if self.prng.one_in(8) {
             self.damage(&mut bytes);
         }
+        self.trace.answer(&bytes);
         bytes.push(b'\n');
         bytes
+    }
+
+    /// A whole trace; of every second seed the last line has no newline.
+    pub fn whole(seed: u64, count: u64, mut write: impl FnMut(&[u8])) {
+        let mut lines = TraceLines::new(seed);
+        for place in 1..=count {
+            let mut line = lines.next_line();
+            if place == count && seed % 2 == 1 {
+                line.pop();
+            }
+            write(&line);
+        }
     }
 
     fn new_line(&mut self) -> String {
@@ -42,9 +59,11 @@ impl TraceLines {
         } else {
             1 + p.below(9)
         };
-        let retain = p.below(slots + 2);
-        let window = if p.one_in(9) { limit(p) } else { p.below(9) };
-        let backlog = if p.one_in(9) { limit(p) } else { p.below(9) };
+        let retain = match p.below(8) {
+            0 => slots + 1,
+            _ => p.below(slots + 1),
+        };
+        let (window, backlog) = (limit(p), limit(p));
         format!(
             "op=new window={} backlog={} retain={} slots={}",
             window, backlog, retain, slots
@@ -52,10 +71,12 @@ impl TraceLines {
     }
 
     fn step(&mut self) -> String {
+        if self.extra_frags && self.prng.coin() {
+            return self.frag();
+        }
         match self.prng.below(20) {
             0..=1 => format!("op=match reader={}", self.reader()),
             2..=7 => {
-                self.writes += 1;
                 let p = &mut self.prng;
                 let len = if p.one_in(8) { p.pick(&[16, 17, u64::MAX >> 1]) } else { p.below(17) };
                 format!("op=write len={}", len)
@@ -75,13 +96,14 @@ impl TraceLines {
         }
     }
 
-    /// Near the last number written, as far as the writes were taken.
+    /// Near one of the state figures.
     fn number(&mut self) -> u64 {
         let p = &mut self.prng;
-        match p.below(16) {
+        let figure = p.pick(&self.trace.figures());
+        match p.below(24) {
             0 => p.pick(&[0, 1, 1 << 32, (u64::MAX >> 1) - 1, u64::MAX >> 1]),
-            1..=8 => p.below(self.writes / 2 + 3),
-            _ => p.below(8),
+            1..=4 => (figure + p.between(-3, 2)).max(0) as u64,
+            _ => (figure + p.between(-1, 1)).max(0) as u64,
         }
     }
 
@@ -100,8 +122,8 @@ impl TraceLines {
         };
         let set = self.set(low);
         let sample = match self.prng.below(3) {
-            0 => 1 + self.prng.below(20),
-            _ => self.number(),
+            0 => self.number(),
+            _ => 1 + self.prng.below(30),
         };
         format!("op=frag reader={} seq={} set={}", self.reader(), sample, set)
     }
@@ -142,7 +164,11 @@ impl TraceLines {
 }
 
 fn limit(prng: &mut Prng) -> u64 {
-    prng.pick(&[(1 << 31) - 1, 1 << 31, u64::MAX >> 1])
+    match prng.below(16) {
+        0 => prng.pick(&[1 << 31, u64::MAX >> 1]),
+        1..=7 => prng.pick(&[20, 1000, (1 << 31) - 1]),
+        _ => prng.below(9),
+    }
 }
 
 /// The right fields in another order.

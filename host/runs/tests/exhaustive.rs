@@ -137,9 +137,9 @@ fn writers_of_every_kind() {
                 slots: 3,
                 slot_bytes: 2,
             };
-            compared += exhaustive::writers(&Model, kind, limits, &alphabet, 4).unwrap();
+            compared += exhaustive::writers(&Model, kind, limits, &alphabet, 5).unwrap();
         }
     }
     println!("{} calls", compared);
-    assert!(compared > 250_000);
+    assert!(compared > 1_000_000);
 }

@@ -16,10 +16,13 @@ fn main() -> io::Result<()> {
             std::process::exit(2);
         }
     };
-    let mut lines = TraceLines::new(seed);
     let mut output = io::BufWriter::new(io::stdout());
-    for _ in 0..count {
-        output.write_all(&lines.next_line())?;
-    }
+    let mut outcome = Ok(());
+    TraceLines::whole(seed, count, |line| {
+        if outcome.is_ok() {
+            outcome = output.write_all(line);
+        }
+    });
+    outcome?;
     output.flush()
 }
