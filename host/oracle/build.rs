@@ -31,14 +31,23 @@ fn main() {
 }
 
 /// `ORACLE_UNSENT_CAP=n` makes the cap the plain constant n, as in the crate;
-/// otherwise each oracle reader is given its own cap.
+/// otherwise each oracle reader is given its own cap. The choice is a line of
+/// code, since the compilers to be served disagree on how to declare a cfg.
 fn fixed_cap() {
     println!("cargo:rerun-if-env-changed=ORACLE_UNSENT_CAP");
-    println!("cargo:rustc-check-cfg=cfg(fixed_cap)");
-    if let Ok(text) = std::env::var("ORACLE_UNSENT_CAP") {
-        let cap: usize = text.parse().expect("ORACLE_UNSENT_CAP is a number");
-        assert!(cap >= 1, "ORACLE_UNSENT_CAP is at least 1");
-        println!("cargo:rustc-env=ORACLE_FIXED_CAP={}", cap);
-        println!("cargo:rustc-cfg=fixed_cap");
-    }
+    let text = std::env::var("ORACLE_UNSENT_CAP").unwrap_or_default();
+    let code = match text.as_str() {
+        "" => "pub use self::per_reader::*;".to_string(),
+        number => {
+            let cap: usize = number.parse().expect("ORACLE_UNSENT_CAP is a number");
+            assert!(cap >= 1, "ORACLE_UNSENT_CAP is at least 1");
+            format!(
+                "pub const MAX_UNSENT_CHANGES_PER_READER: usize = {};\npub use self::fixed::*;",
+                cap
+            )
+        }
+    };
+    let out = std::env::var("OUT_DIR").expect("set by cargo");
+    let file = std::path::Path::new(&out).join("unsent_cap.rs");
+    std::fs::write(file, code).expect("the cap's choice is written");
 }

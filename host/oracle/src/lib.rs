@@ -23,5 +23,11 @@ mod reader;
 mod writer;
 
 pub use reader::Reader;
-pub use rtps::constant::FIXED_CAP;
 pub use writer::{Kind, Limits, Writer};
+
+/// The cap that the build fixed, if it fixed one; otherwise each reader has
+/// the one it is made with.
+pub fn fixed_cap() -> Option<usize> {
+    let text = option_env!("ORACLE_UNSENT_CAP").filter(|text| !text.is_empty());
+    text.map(|text| text.parse().expect("tested by the build script"))
+}

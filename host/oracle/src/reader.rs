@@ -18,6 +18,7 @@ pub struct Reader {
 
 impl Reader {
     pub fn new(cap: usize) -> Self {
+        assert!(crate::fixed_cap().map_or(true, |fixed| fixed == cap));
         let proxy = RtpsReaderProxy::new(GUID::default(), QosPolicies, false);
         Reader { cap, proxy }
     }

@@ -15,7 +15,7 @@ pub struct ReaderWorld {
 
 impl ReaderWorld {
     pub fn new(prng: &mut Prng) -> Self {
-        let cap = oracle::FIXED_CAP.unwrap_or_else(|| prng.pick(&[1, 2, 3, 8, 8, 64, 256, 1024]));
+        let cap = oracle::fixed_cap().unwrap_or_else(|| prng.pick(&[1, 2, 3, 8, 8, 64, 256, 1024]));
         let width = prng.pick(&[6, 20, 20, 300]);
         let low = match prng.below(6) {
             0 => (1 << 32) - width / 2,

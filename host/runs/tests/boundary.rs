@@ -11,7 +11,7 @@ use runs::{
 type Pair = ReaderPair<model::Reader>;
 
 fn pair(cap: usize) -> Pair {
-    ReaderPair::new(&Model, oracle::FIXED_CAP.unwrap_or(cap))
+    ReaderPair::new(&Model, oracle::fixed_cap().unwrap_or(cap))
 }
 
 /// The call is in the compared range and both agree.
@@ -71,7 +71,7 @@ fn numbers_at_2_to_the_63() {
 fn full_sets_and_full_caps() {
     for cap in [256, 257, 1024] {
         let mut pair = pair(cap);
-        if oracle::FIXED_CAP.map_or(false, |fixed| fixed < 256) {
+        if oracle::fixed_cap().map_or(false, |fixed| fixed < 256) {
             return;
         }
         agree(&mut pair, ack(1, 256, 2000));

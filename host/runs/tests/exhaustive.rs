@@ -23,7 +23,7 @@ fn frag_sent(sample: i64, fragment: u32) -> ReaderCall {
 
 /// Caps where they may be chosen; the built-in one where it is fixed.
 fn caps() -> Vec<usize> {
-    oracle::FIXED_CAP.map_or(vec![1, 2, 3], |cap| vec![cap])
+    oracle::fixed_cap().map_or(vec![1, 2, 3], |cap| vec![cap])
 }
 
 #[test]
