@@ -2,12 +2,7 @@
 //! some parts can test only these.
 
 use crate::{
-    flow::Flow,
-    list::ReaderList,
-    numbers::*,
-    reader::Reader,
-    store::SendBuffer,
-    writer::Writer,
+    flow::Flow, list::ReaderList, numbers::*, reader::Reader, store::SendBuffer, writer::Writer,
 };
 
 impl Reader {

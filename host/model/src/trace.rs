@@ -49,7 +49,15 @@ impl Trace {
     fn follow(&mut self, line: &[u8]) -> Answer<()> {
         let command = understood(line).ok_or(Refusal::NotUnderstood)?;
         match (&mut self.writer, command) {
-            (None, Command::New { window, backlog, retain, slots }) => {
+            (
+                None,
+                Command::New {
+                    window,
+                    backlog,
+                    retain,
+                    slots,
+                },
+            ) => {
                 self.writer = Some(writer(window, backlog, retain, slots)?);
                 Ok(())
             }

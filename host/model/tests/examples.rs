@@ -125,7 +125,10 @@ fn f3_4096_passes_4097_does_not() {
     assert_eq!(r.next_fragment(0), Ok((1, 4096)));
     let before = r.clone();
     assert_eq!(ask(&mut r, 1, 4097, &[4097]), Err(Refusal::OutOfRange));
-    assert_eq!(ask(&mut r, 1, 4096, &[4096, 4097]), Err(Refusal::OutOfRange));
+    assert_eq!(
+        ask(&mut r, 1, 4096, &[4096, 4097]),
+        Err(Refusal::OutOfRange)
+    );
     assert_eq!(r, before);
 }
 

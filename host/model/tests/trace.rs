@@ -95,26 +95,56 @@ fn lines_of_512_bytes() {
     assert_eq!(after_new(&full), [15, 0]);
 }
 
+/// Lines after an accepted `op=new`, a match of reader 1 and one write.
 #[test]
-fn each_number_a_trace_can_give() {
-    assert_eq!(after_new(b"op=write len=17\n"), [4]);
-    assert_eq!(after_new(b"op=sent reader=1 seq=2\nop=sent reader=7 seq=2\n"), [2, 2]);
-    assert_eq!(after_new(b"op=sent reader=7 seq=1\nop=sent reader=1 seq=0\n"), [11, 0]);
-    assert_eq!(after_new(b"op=ack reader=1 base=3 set=\n"), [12]);
-    assert_eq!(after_new(b"op=ack reader=2 base=1 set=257\n"), [3]);
-    assert_eq!(after_new(b"op=ack reader=2 base=1 set=256\n"), [11]);
-    assert_eq!(after_new(b"op=match reader=0\nop=match reader=1\n"), [11, 11]);
-    assert_eq!(after_new(b"op=match reader=2\nop=match reader=3\nop=match reader=2\n"), [0, 8, 11]);
-    assert_eq!(after_new(b"op=evict before=2\nop=evict before=3\n"), [0, 2]);
-    assert_eq!(after_new(b"op=frag reader=1 seq=0 set=\nop=frag reader=1 seq=1 set=0\n"), [2, 2]);
-    assert_eq!(after_new(b"op=frag reader=1 seq=9 set=4096\nop=frag reader=1 seq=9 set=4097\n"), [0, 2]);
-    assert_eq!(after_new(b"op=frag reader=1 seq=9 set=1,257\nop=frag reader=3 seq=9 set=1\n"), [3, 11]);
-    assert_eq!(after_new(NEW), [15]);
+fn each_number_that_needs_few_lines() {
+    let cases: [(&str, &[u8]); 14] = [
+        ("op=write len=17", &[4]),
+        ("op=sent reader=1 seq=2|op=sent reader=7 seq=2", &[2, 2]),
+        ("op=sent reader=7 seq=1|op=sent reader=1 seq=0", &[11, 0]),
+        ("op=ack reader=1 base=3 set=", &[12]),
+        (
+            "op=ack reader=1 base=2 set=3|op=ack reader=1 base=0 set=0,1",
+            &[0, 0],
+        ),
+        ("op=ack reader=2 base=1 set=257", &[3]),
+        ("op=ack reader=2 base=1 set=256", &[11]),
+        ("op=match reader=0|op=match reader=1", &[11, 11]),
+        (
+            "op=match reader=2|op=match reader=3|op=match reader=2",
+            &[0, 8, 11],
+        ),
+        (
+            "op=evict before=2|op=evict before=3|op=evict before=0",
+            &[0, 2, 0],
+        ),
+        (
+            "op=frag reader=1 seq=0 set=|op=frag reader=1 seq=1 set=0",
+            &[2, 2],
+        ),
+        (
+            "op=frag reader=1 seq=9 set=4096|op=frag reader=1 seq=9 set=4097",
+            &[0, 2],
+        ),
+        (
+            "op=frag reader=1 seq=9 set=1,257|op=frag reader=3 seq=9 set=1",
+            &[3, 11],
+        ),
+        ("op=new window=9 backlog=9 retain=4 slots=4", &[15]),
+    ];
+    for (lines, answers) in cases {
+        let lines = lines.replace('|', "\n");
+        assert_eq!(after_new(lines.as_bytes()), answers, "{}", lines);
+    }
+}
+
+#[test]
+fn each_number_that_needs_more() {
     let refused = b"op=new window=2147483648 backlog=1 retain=1 slots=1\n";
     let again = [&refused[..], b"op=write len=1\n", NEW].concat();
     assert_eq!(numbers(&again), [13, 15, 0]);
-    let full = b"op=write len=1\nop=write len=1\nop=write len=1\nop=write len=1\n";
-    assert_eq!(after_new(full), [0, 0, 0, 7]);
+    let full = b"op=write len=1\n".repeat(4);
+    assert_eq!(after_new(&full), [0, 0, 0, 7]);
     let frags: Vec<u8> = (1..=17)
         .flat_map(|n| format!("op=frag reader=1 seq={} set=1\n", n).into_bytes())
         .collect();

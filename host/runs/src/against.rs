@@ -6,9 +6,10 @@ use std::collections::BTreeMap;
 use crate::{
     beside::same,
     draw_any::{self, Near},
+    draw_list,
     model_subject::Model,
     prng::Prng,
-    subject::{ReaderSubject, Subjects, WriterSubject},
+    subject::{ListSubject, ReaderSubject, Subjects, WriterSubject},
 };
 
 const CALLS_PER_WORLD: u64 = 20;
@@ -21,10 +22,10 @@ pub fn run<S: Subjects>(subjects: &S, seed: u64, calls: u64) -> Result<Answers, 
     let mut world = 0;
     while world * CALLS_PER_WORLD < calls {
         let mut prng = Prng::of_world(seed, world);
-        let result = if world % 2 == 0 {
-            reader_world(subjects, &mut prng, &mut answers)
-        } else {
-            writer_world(subjects, &mut prng, &mut answers)
+        let result = match world % 5 {
+            0 | 1 => reader_world(subjects, &mut prng, &mut answers),
+            2 | 3 => writer_world(subjects, &mut prng, &mut answers),
+            _ => list_world(subjects, &mut prng, &mut answers),
         };
         result.map_err(|e| format!("world {} of seed {}: {}", world, seed, e))?;
         world += 1;
@@ -47,9 +48,11 @@ fn reader_world<S: Subjects>(
         same(&call, reply, judge.call(&call))?;
         same(&call, subject.record(), judge.record())?;
         let (number, fragment) = (near.number(prng), draw_any::fragment(prng));
-        same(&(&call, number, fragment), questions(&subject, number, fragment), {
-            questions(&judge, number, fragment)
-        })?;
+        same(
+            &(&call, number, fragment),
+            questions(&subject, number, fragment),
+            questions(&judge, number, fragment),
+        )?;
     }
     Ok(())
 }
@@ -83,6 +86,34 @@ fn writer_world<S: Subjects>(
         same(&(&call, number), subject.fetch(number), judge.fetch(number))?;
         let (told, judged) = (subject.acked_through(number), judge.acked_through(number));
         same(&(&call, number), told, judged)?;
+    }
+    Ok(())
+}
+
+/// Calls on a list, and as many creations.
+fn list_world<S: Subjects>(
+    subjects: &S,
+    prng: &mut Prng,
+    answers: &mut Answers,
+) -> Result<(), String> {
+    let near = Near::new(prng);
+    let start = draw_list::list(prng, near);
+    let (mut subject, mut judge) = (subjects.list(&start), Model.list(&start));
+    for _ in 0..CALLS_PER_WORLD / 2 {
+        let call = draw_list::call(prng);
+        let reply = subject.call(&call);
+        *answers.entry(reply.answer).or_default() += 1;
+        same(&call, reply, judge.call(&call))?;
+        same(&call, subject.record(), judge.record())?;
+    }
+    for _ in 0..CALLS_PER_WORLD / 4 {
+        let cap = draw_list::cap(prng);
+        same(&cap, subjects.new_reader(cap), Model.new_reader(cap))?;
+        let (kind, limits) = (draw_list::kind(prng), draw_list::limits(prng));
+        let made = subjects.new_writer(kind, limits);
+        let answer = made.as_ref().map_or_else(|number| *number, |_| 0);
+        *answers.entry(answer).or_default() += 1;
+        same(&limits, made, Model.new_writer(kind, limits))?;
     }
     Ok(())
 }

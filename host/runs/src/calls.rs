@@ -40,12 +40,21 @@ pub enum WriterCall {
     },
 }
 
+#[derive(Clone, PartialEq, Eq, Debug)]
+pub enum ListCall {
+    Match { id: u64, reliable: bool },
+    Depart { id: u64 },
+    Find { id: u64 },
+    Frontier,
+}
+
 /// Document 01's number, and the values that go with it: zeros where the
 /// number isn't 0 or the call has no such value.
 #[derive(Clone, Copy, PartialEq, Eq, Debug, Default)]
 pub struct Reply {
     pub answer: u8,
-    /// The admitted sample's number.
+    /// The admitted sample's number, a reader's place in the list, or the
+    /// frontier (0 where it is absent).
     pub number: i64,
     /// Numbers left out at the cap.
     pub left_out: u64,

@@ -135,7 +135,11 @@ impl ReaderWorld {
         let count = bit_count(prng);
         let set = FragmentSet {
             base,
-            count: if prng.one_in(10) { count } else { count.min(room) },
+            count: if prng.one_in(10) {
+                count
+            } else {
+                count.min(room)
+            },
             words: words(prng, 32),
         };
         let sample = self.sample(prng);

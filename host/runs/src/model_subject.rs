@@ -1,10 +1,10 @@
 //! The model as a subject.
 
-use model::{Answer, Reader, SendBuffer};
+use model::{Answer, Kind, Limits, Reader, ReaderList, Refusal, SendBuffer};
 
 use crate::{
-    calls::{ReaderCall, Reply, WriterCall},
-    subject::{ReaderSubject, Subjects, WriterSubject},
+    calls::{ListCall, ReaderCall, Reply, WriterCall},
+    subject::{ListSubject, ReaderSubject, Subjects, WriterSubject},
 };
 
 pub struct Model;
@@ -12,6 +12,7 @@ pub struct Model;
 impl Subjects for Model {
     type Reader = Reader;
     type Writer = SendBuffer;
+    type List = ReaderList;
 
     fn reader(&self, start: &Reader) -> Reader {
         start.clone()
@@ -19,6 +20,20 @@ impl Subjects for Model {
 
     fn writer(&self, start: &SendBuffer) -> SendBuffer {
         start.clone()
+    }
+
+    fn list(&self, start: &ReaderList) -> ReaderList {
+        start.clone()
+    }
+
+    fn new_reader(&self, cap: u64) -> Result<Reader, u8> {
+        // A cap that no usize holds is as little allowed as the largest one.
+        let cap = usize::try_from(cap).unwrap_or(usize::MAX);
+        Reader::new(cap).map_err(Refusal::number)
+    }
+
+    fn new_writer(&self, kind: Kind, limits: Limits) -> Result<SendBuffer, u8> {
+        SendBuffer::new(kind, limits).map_err(Refusal::number)
     }
 }
 
@@ -33,6 +48,13 @@ fn done(_: ()) -> Reply {
     Reply::default()
 }
 
+fn number(number: i64) -> Reply {
+    Reply {
+        number,
+        ..Reply::default()
+    }
+}
+
 fn woken(wake: bool) -> Reply {
     Reply {
         wake,
@@ -43,12 +65,12 @@ fn woken(wake: bool) -> Reply {
 impl ReaderSubject for Reader {
     fn call(&mut self, call: &ReaderCall) -> Reply {
         match call {
-            ReaderCall::Ack { set, last } => reply(self.handle_ack_nack(set, *last), |left_out| {
-                Reply {
+            ReaderCall::Ack { set, last } => {
+                reply(self.handle_ack_nack(set, *last), |left_out| Reply {
                     left_out,
                     ..Reply::default()
-                }
-            }),
+                })
+            }
             ReaderCall::Notify { number } => reply(self.notify_new_cache_change(*number), done),
             ReaderCall::MarkSent { number } => reply(self.mark_change_sent(*number), done),
             ReaderCall::RemoveBefore { number } => {
@@ -95,10 +117,7 @@ impl WriterSubject for SendBuffer {
         match call {
             WriterCall::Admit {
                 opted_in, bytes, ..
-            } => reply(self.admit(*opted_in, bytes), |number| Reply {
-                number,
-                ..Reply::default()
-            }),
+            } => reply(self.admit(*opted_in, bytes), number),
             WriterCall::SetAcked { frontier } => {
                 reply(self.flow.set_acked_frontier(*frontier), woken)
             }
@@ -119,5 +138,20 @@ impl WriterSubject for SendBuffer {
 
     fn acked_through(&self, number: i64) -> bool {
         self.flow.is_acked_through(number) == Ok(true)
+    }
+}
+
+impl ListSubject for ReaderList {
+    fn call(&mut self, call: &ListCall) -> Reply {
+        match call {
+            ListCall::Match { id, reliable } => reply(self.match_reader(*id, *reliable), done),
+            ListCall::Depart { id } => reply(self.depart(*id), done),
+            ListCall::Find { id } => reply(self.find(*id), |place| number(place as i64)),
+            ListCall::Frontier => reply(self.frontier(), |f| number(f.unwrap_or(0))),
+        }
+    }
+
+    fn record(&self) -> ReaderList {
+        self.clone()
     }
 }

@@ -38,9 +38,7 @@ impl ReaderRange {
 
     pub fn allows(&self, call: &ReaderCall, reader: &OracleReader) -> bool {
         match call {
-            ReaderCall::Ack { set, last } => {
-                is_last(*last) && self.allows_ack(set, *last, reader)
-            }
+            ReaderCall::Ack { set, last } => is_last(*last) && self.allows_ack(set, *last, reader),
             // D2, D8.
             ReaderCall::Notify { number } => is_sample(*number),
             ReaderCall::MarkSent { .. } | ReaderCall::RemoveBefore { .. } => true,

@@ -74,9 +74,7 @@ impl FaultyReader {
     fn heard(&self, call: &ReaderCall) -> ReaderCall {
         let mut heard = call.clone();
         match (self.fault, &mut heard) {
-            (Some(BaseOneUp), ReaderCall::Ack { set, .. }) => {
-                set.base = set.base.saturating_add(1)
-            }
+            (Some(BaseOneUp), ReaderCall::Ack { set, .. }) => set.base = set.base.saturating_add(1),
             (Some(BitsReversed), ReaderCall::Ack { set, .. }) => {
                 set.words.iter_mut().for_each(|w| *w = w.reverse_bits())
             }
@@ -148,11 +146,10 @@ impl FaultyReader {
                 record.unsent.extend(kept.take(room));
             }
             Some(CapKeepsLargest) if reply.left_out > 0 => {
-                let mut whole = before.clone();
+                let mut whole = before;
                 whole.cap = model::numbers::MOST_UNSENT;
-                let _ = whole.handle_ack_nack(set, last);
-                let kept = whole.unsent.into_iter().rev().take(record.cap);
-                record.unsent = kept.collect();
+                whole.call(call);
+                record.unsent = whole.unsent.into_iter().rev().take(record.cap).collect();
             }
             Some(LeftOutInvented) if reply.left_out > 0 => reply.left_out += 1,
             Some(IgnoredStillMoves) if reply.answer == Refusal::BaseAboveLast.number() => {
@@ -180,7 +177,9 @@ impl FaultyReader {
         }
         let members = set.members().into_iter();
         let numbers: Vec<i64> = members.filter_map(|n| i64::try_from(n).ok()).collect();
-        let numbers = numbers.into_iter().filter(|n| model::numbers::is_sample(*n));
+        let numbers = numbers
+            .into_iter()
+            .filter(|n| model::numbers::is_sample(*n));
         let record = &mut self.record;
         let room = record.cap - record.unsent.len();
         match self.fault {

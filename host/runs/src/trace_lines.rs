@@ -78,7 +78,11 @@ impl TraceLines {
             0..=1 => format!("op=match reader={}", self.reader()),
             2..=7 => {
                 let p = &mut self.prng;
-                let len = if p.one_in(8) { p.pick(&[16, 17, u64::MAX >> 1]) } else { p.below(17) };
+                let len = if p.one_in(8) {
+                    p.pick(&[16, 17, u64::MAX >> 1])
+                } else {
+                    p.below(17)
+                };
                 format!("op=write len={}", len)
             }
             8..=12 => self.ack(),
@@ -109,7 +113,11 @@ impl TraceLines {
 
     fn ack(&mut self) -> String {
         let base = self.number();
-        let low = if self.prng.one_in(20) { base.saturating_sub(1) } else { base };
+        let low = if self.prng.one_in(20) {
+            base.saturating_sub(1)
+        } else {
+            base
+        };
         let set = self.set(low);
         format!("op=ack reader={} base={} set={}", self.reader(), base, set)
     }
@@ -125,7 +133,12 @@ impl TraceLines {
             0 => self.number(),
             _ => 1 + self.prng.below(30),
         };
-        format!("op=frag reader={} seq={} set={}", self.reader(), sample, set)
+        format!(
+            "op=frag reader={} seq={} set={}",
+            self.reader(),
+            sample,
+            set
+        )
     }
 
     fn set(&mut self, low: u64) -> String {
@@ -138,7 +151,11 @@ impl TraceLines {
             if number > u64::MAX >> 1 {
                 break;
             }
-            texts.push(if p.one_in(30) { format!("0{}", number) } else { number.to_string() });
+            texts.push(if p.one_in(30) {
+                format!("0{}", number)
+            } else {
+                number.to_string()
+            });
             number = number.saturating_add(1 + p.below(step));
         }
         texts.join(",")

@@ -62,6 +62,8 @@ pub struct FaultyWriter {
     pub record: SendBuffer,
     /// Samples no longer retained, for the fault that still shows them.
     pub gone: BTreeMap<i64, Vec<u8>>,
+    /// The frontier as it was told, for the fault that takes it so.
+    pub told: i64,
     pub fault: Option<WriterFault>,
 }
 
@@ -116,16 +118,15 @@ impl FaultyWriter {
     fn set_acked(&mut self, call: &WriterCall, frontier: Option<i64>) -> Reply {
         let (acked, present) = (self.record.flow.acked, self.record.flow.present);
         let mut reply = self.record.call(call);
+        if let (0, Some(frontier)) = (reply.answer, frontier) {
+            self.told = frontier;
+        }
         let flow = &mut self.record.flow;
         match self.fault {
             Some(FrontierNeverLowers) => flow.acked = flow.acked.max(acked),
             Some(NoWakeWhenReadersGo) if frontier.is_none() => reply.wake = false,
             Some(NoWakeWhenReadersAppear) if !present => {
                 reply.wake &= frontier.map_or(false, |f| f > acked)
-            }
-            Some(FrontierNotRaisedTo1) if reply.answer == 0 => {
-                // Kept coherent: the fault shows in the wake answer.
-                reply.wake |= frontier.map_or(false, |f| f < 1);
             }
             _ => {}
         }
@@ -187,10 +188,10 @@ impl WriterSubject for FaultyWriter {
     }
 
     fn acked_through(&self, number: i64) -> bool {
+        let flow = &self.record.flow;
         match self.fault {
-            Some(AckedThroughAtFrontier) => {
-                !self.record.flow.present || self.record.flow.acked >= number
-            }
+            Some(AckedThroughAtFrontier) => !flow.present || flow.acked >= number,
+            Some(FrontierNotRaisedTo1) => !flow.present || self.told > number,
             _ => self.record.acked_through(number),
         }
     }

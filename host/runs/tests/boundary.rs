@@ -14,6 +14,11 @@ fn pair(cap: usize) -> Pair {
     ReaderPair::new(&Model, oracle::fixed_cap().unwrap_or(cap))
 }
 
+/// Sets of 256 numbers need room; a build with a small fixed cap has none.
+fn small_cap() -> bool {
+    oracle::fixed_cap().map_or(false, |fixed| fixed < 300)
+}
+
 /// The call is in the compared range and both agree.
 fn agree(pair: &mut Pair, call: ReaderCall) {
     for number in [i64::MIN, 0, 1 << 32, LAST_SAMPLE, i64::MAX] {
@@ -40,6 +45,9 @@ fn ack(base: i64, count: u32, last: i64) -> ReaderCall {
 
 #[test]
 fn numbers_around_2_to_the_32() {
+    if small_cap() {
+        return;
+    }
     let edge = 1 << 32;
     let mut pair = pair(1024);
     agree(&mut pair, ack(edge - 100, 256, edge + 50));
@@ -52,6 +60,9 @@ fn numbers_around_2_to_the_32() {
 
 #[test]
 fn numbers_at_2_to_the_63() {
+    if small_cap() {
+        return;
+    }
     let last = LAST_SAMPLE;
     let mut pair = pair(1024);
     agree(&mut pair, ReaderCall::Notify { number: last });
@@ -71,7 +82,7 @@ fn numbers_at_2_to_the_63() {
 fn full_sets_and_full_caps() {
     for cap in [256, 257, 1024] {
         let mut pair = pair(cap);
-        if oracle::fixed_cap().map_or(false, |fixed| fixed < 256) {
+        if small_cap() {
             return;
         }
         agree(&mut pair, ack(1, 256, 2000));
@@ -137,9 +148,21 @@ fn gaps_and_fragments_to_the_full() {
         };
         agree_once(&mut pair, ReaderCall::Request { sample, set });
     }
-    agree(&mut pair, ReaderCall::FragSent { sample: 1, fragment: 4096 });
+    agree(
+        &mut pair,
+        ReaderCall::FragSent {
+            sample: 1,
+            fragment: 4096,
+        },
+    );
     for fragment in 3841..=4096 {
-        agree_once(&mut pair, ReaderCall::FragSent { sample: 2, fragment });
+        agree_once(
+            &mut pair,
+            ReaderCall::FragSent {
+                sample: 2,
+                fragment,
+            },
+        );
     }
     assert_eq!(pair.subject.frags.len(), 15);
 }
