@@ -26,8 +26,8 @@ use Rattle.rising.specs.declared.set.Contained.{Contained}
 use Rattle.rising.specs.declared.set.Joined.{Joined}
 use Rattle.rising.specs.declared.set.RisingSet.{RisingSet}
 use Rattle.rising.specs.declared.set.Changed.{Changed}
-use Rattle.rising.proofs.Lists.{done as past}
-use Rattle.rising.proofs.Merging.{filled-length, merged-union}
+use Rattle.rising.proofs.Lists.{done as past, filled-length}
+use Rattle.rising.proofs.Merging.{merged-union}
 use Rattle.rising.proofs.Meaning.{RunIs, run-is, in-room, from-only, before-only, removed-without, between-is, room-take, room-length, rising-only, room-ok}
 
 pub only-le : (p : ℕ → Bool) (l : List ℕ) → length (only p l) ≤ length l

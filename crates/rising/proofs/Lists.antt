@@ -1,12 +1,16 @@
 -- Laws of lists that the loops use. Assumes nothing.
 use Prim.Native.Nat.{ℕ, suc, zero, _+_, _-_, _<_, _≤_, min}
 use mathlib.Core.Path.{_≡_, refl, sym, ap, _∙_}
+use mathlib.Core.Bool.{Bool, true, false}
+use lib.Dec.{ltb}
+use borrow.Author.Tests.{ltb-true, ltb-false}
+use Rattle.rising.specs.Runs.{filled}
 use mathlib.Core.List.{List, [], _∷_, _++_, append-nil, append-assoc}
 use native.Mathlib.Numerals.{add-one}
 use native.Mathlib.Nat.{min-eq-left, add-sub-of-le}
 use native.Mathlib.Omega.{arith}
-use lib.ListN.{length, take, drop, getD, set, replicate, drop-of-length-le, length-append, length-take, length-drop, length-replicate, List·getD-append, getD-replicate}
-use lib.Seq.{drop-cons, take-suc, take-all, append-snoc, set-at, length-take-le, getD-append-add, getD-drop, getD-take}
+use lib.ListN.{length, take, drop, getD, set, replicate, drop-of-length-le, length-append, length-take, length-drop, length-replicate, List·getD-append, getD-replicate, take-append-drop}
+use lib.Seq.{drop-cons, take-suc, take-all, append-snoc, set-at, length-take-le, getD-append-add, getD-drop, getD-take, drop-drop, take-append-add}
 
 -- ---- a loop that reads: what is left at i
 pub here : (s : List ℕ) (i : ℕ) → i < length s → drop i s ≡ getD s i 0 ∷ drop (i + 1) s
@@ -115,3 +119,35 @@ pub downto-step : (t s r : List ℕ) (i v : ℕ) → length t ≡ length s → r
 downto-step t s r i v same e p q g =
     let w : i ≡ i - 1 + 1 = omega arith in
     ap (λ (x : List ℕ). set x (i - 1) v) (e ∙ ap (downto t s) w) ∙ downto-more t s same (i - 1) v (omega arith) g
+
+-- ---- what comes to a room from its front, as far as it fits
+pub filled-length : (w out : List ℕ) → length (filled w out) ≡ length out
+filled-length w out = simp (length-append, length-take, length-drop) (omega arith)
+
+pub filled-at : (w out : List ℕ) (k : ℕ) → k < length out → k < length w → getD (filled w out) k 0 ≡ getD w k 0
+filled-at w out k h l =
+    let q : k < length (take (length out) w) = rw length-take (omega arith) in
+    List·getD-append (take (length out) w) _ 0 k q ∙ getD-take (length out) w k 0 h
+
+pub filled-end : (w out : List ℕ) (k : ℕ) → length w ≤ k → upto (filled w out) out (min k (length out)) ≡ filled w out
+filled-end w out k a = go (ltb (length w) (length out)) refl
+  where
+    go : (b : Bool) → ltb (length w) (length out) ≡ b → upto (filled w out) out (min k (length out)) ≡ filled w out
+    go false b = let h = ltb-false (length w) (length out) b in upto-all (filled w out) out (filled-length w out) (min k (length out)) (omega arith)
+    go true b =
+        let h = ltb-true (length w) (length out) b in
+        let m = min k (length out) in
+        let al : take (length out) w ≡ w = take-all (length out) w (omega arith) in
+        let t : take (min k (length out)) (filled w out) ≡ w ++ take (min k (length out) - length w) (drop (length w) out) =
+        ap (λ (x : List ℕ). take (min k (length out)) (x ++ drop (length w) out)) al ∙ ap (λ (x : ℕ). take x (w ++ drop (length w) out)) (split (omega arith)) ∙ take-append-add w (drop (length w) out) (min k (length out) - length w) in
+        rw (t, append-assoc) (rest al)
+      where
+        split : length w ≤ min k (length out) → min k (length out) ≡ length w + (min k (length out) - length w)
+        split q = omega arith
+
+        rest : take (length out) w ≡ w → w ++ (take (min k (length out) - length w) (drop (length w) out) ++ drop (min k (length out)) out) ≡ filled w out
+        rest al =
+            let h = ltb-true (length w) (length out) b in
+            let q : length w + (min k (length out) - length w) ≡ min k (length out) = omega arith in
+            let d : drop (min k (length out)) out ≡ drop (min k (length out) - length w) (drop (length w) out) = sym (drop-drop (min k (length out) - length w) (length w) out ∙ ap (λ (x : ℕ). drop x out) q) in
+            ap (λ (x : List ℕ). w ++ x) (ap (λ (x : List ℕ). take (min k (length out) - length w) (drop (length w) out) ++ x) d ∙ take-append-drop (min k (length out) - length w) (drop (length w) out)) ∙ ap (λ (x : List ℕ). x ++ drop (length w) out) (sym al)

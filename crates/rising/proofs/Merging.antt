@@ -13,7 +13,7 @@ use Rattle.sets.specs.Sets.{From, union}
 use Rattle.sets.proofs.Ext.{union-left, union-right, union-both, union-nil}
 use Rattle.rising.specs.Runs.{merged, ahead, filled}
 use Rattle.rising.specs.Turn.{Turned}
-use Rattle.rising.proofs.Lists.{here, done, upto, upto-more, upto-all}
+use Rattle.rising.proofs.Lists.{here, done, upto, upto-more, upto-all, filled-length, filled-at, filled-end}
 
 no : {A : Type 0} → false ≡ true → A
 no e = absurd (false≢true e)
@@ -65,14 +65,6 @@ merged-le [] t = omega arith
 merged-le (x ∷ xs) t = ahead-le x (merged xs) (length xs) (λ u. merged-le xs u) t
 
 -- THE LOOP: k numbers of the merge w are found, and those that fit stand in out
-
-pub filled-length : (w out : List ℕ) → length (filled w out) ≡ length out
-filled-length w out = simp (length-append, length-take, length-drop) (omega arith)
-
-filled-at : (w out : List ℕ) (k : ℕ) → k < length out → k < length w → getD (filled w out) k 0 ≡ getD w k 0
-filled-at w out k h l =
-    let q : k < length (take (length out) w) = rw length-take (omega arith) in
-    List·getD-append (take (length out) w) _ 0 k q ∙ getD-take (length out) w k 0 h
 
 at-head : (w : List ℕ) (k v : ℕ) (r : List ℕ) → drop k w ≡ v ∷ r → (k < length w) × (v ≡ getD w k 0) × (drop (k + 1) w ≡ r)
 at-head w k v r e = go (ltb k (length w)) refl
@@ -130,21 +122,7 @@ module _ (s t out₀ out : List ℕ) (i j k : ℕ) (m : Merging s t out₀ out i
   pub merging-end : more ≡ false → (k ≡ length (merged s t)) × (out ≡ filled (merged s t) out₀)
   merging-end e =
       let a = merging-all e in
-      let w = merged s t in
-      let q : length (take (length out₀) w) ≡ min k (length out₀) = length-take (length out₀) w ∙ omega arith in
-      (a, m .written ∙ ends q a)
-    where
-      ends : length (take (length out₀) (merged s t)) ≡ min k (length out₀) → k ≡ length (merged s t) → upto (filled (merged s t) out₀) out₀ (min k (length out₀)) ≡ filled (merged s t) out₀
-      ends q a = go (ltb (length (merged s t)) (length out₀)) refl
-        where
-          go : (b : Bool) → ltb (length (merged s t)) (length out₀) ≡ b → upto (filled (merged s t) out₀) out₀ (min k (length out₀)) ≡ filled (merged s t) out₀
-          go true b =
-              let h = ltb-true (length (merged s t)) (length out₀) b in
-              let z : min k (length out₀) ≡ length (merged s t) = omega arith in
-              rw (take-at (take (length out₀) (merged s t)) (drop (length (merged s t)) out₀) (min k (length out₀)) q, z)
-          go false b =
-              let h = ltb-false (length (merged s t)) (length out₀) b in
-              upto-all (filled (merged s t) out₀) out₀ (filled-length (merged s t) out₀) (min k (length out₀)) (omega arith)
+      (a, m .written ∙ filled-end (merged s t) out₀ k (omega arith))
 
 -- WHAT IT MEANS: the merge of two rising runs is their union
 pub merged-union : (b : ℕ) (s t : List ℕ) → From b s → From b t → merged s t ≡ union s t

@@ -4,7 +4,7 @@ ghost use mathlib.Core.List.{_++_};
 ghost use Prim.Native.Nat.{min, _-_};
 ghost use lib.ListN.{length, take, drop, replicate};
 ghost use Rattle.sets.specs.Sets.{has};
-ghost use Rattle.rising.specs.Runs.{risesAbove, zeros, runOk, placeOf, holdsAt};
+ghost use Rattle.rising.specs.Runs.{risesAbove, zeros, runOk, placeOf, holdsAt, filled};
 
 // Whether the numbers rise strictly, all above `above` and none above 2 ^ 63 - 2. No early exit.
 pub fn rises(s: &[u64], above: u64) -> bool
@@ -107,6 +107,18 @@ pub fn lift(s: &mut [u64], k: usize)
         } else {
             s[i] = 0;
         }
+    }
+}
+
+// The numbers of `from` go to `to`, as many as fit.
+pub fn copy(from: &[u64], to: &mut [u64])
+    ensures { λ r. ⌜ now (to .exit) ≡ filled (now (from .entry)) (now (to .entry)) ⌝ }
+{
+    let n = smaller(from.len(), to.len());
+    let mut i = 0;
+    while i < n {
+        to[i] = from[i];
+        i += 1;
     }
 }
 
