@@ -143,11 +143,11 @@ in-room p c a f l w e h r u g =
 
 -- THE CHANGES OF A RISING RUN, in the words of `sets`
 
-only-all : (q : ℕ → Bool) (b : ℕ) (l : List ℕ) → From b l → ((n : ℕ) → b ≤ n → q n ≡ true) → only q l ≡ l
+pub only-all : (q : ℕ → Bool) (b : ℕ) (l : List ℕ) → From b l → ((n : ℕ) → b ≤ n → q n ≡ true) → only q l ≡ l
 only-all q b [] h k = refl
 only-all q b (x ∷ xs) h k = rw (k x (h .0)) (ap (λ (z : List ℕ). x ∷ z) (only-all q (suc x) xs (h .1) (λ n w. k n (omega (arith, h .0)))))
 
-only-none : (q : ℕ → Bool) (b : ℕ) (l : List ℕ) → From b l → ((n : ℕ) → b ≤ n → q n ≡ false) → only q l ≡ []
+pub only-none : (q : ℕ → Bool) (b : ℕ) (l : List ℕ) → From b l → ((n : ℕ) → b ≤ n → q n ≡ false) → only q l ≡ []
 only-none q b [] h k = refl
 only-none q b (x ∷ xs) h k = rw (k x (h .0)) (only-none q (suc x) xs (h .1) (λ n w. k n (omega (arith, h .0))))
 

@@ -1,0 +1,50 @@
+// The pending gap: a prefix from 1 on, and single members above it.
+ghost use mathlib.Core.Path.{_≡_};
+ghost use mathlib.Core.List.{[], _∷_};
+ghost use mathlib.Core.Bool.{not, _||_};
+ghost use Prim.Native.Nat.{max};
+ghost use Rattle.numbers.specs.Number.{rankOf};
+ghost use Rattle.numbers.specs.Promise.{Gives1};
+ghost use Rattle.numbers.specs.Refusals.{row, rowsOf, answerOf};
+ghost use Rattle.rtps_reader_proxy.specs.Reader.{needsRoom};
+ghost use Rattle.rtps_reader_proxy.specs.Record.{gapsOk};
+ghost use Rattle.rtps_reader_proxy.specs.Gaps.{byGaps, beyond, gapInsertedOf, gapUpToOf, countGaps};
+use crate::proxy::Changed;
+use crate::proxy::ReaderProxy;
+use numbers::Answer;
+use numbers::Rows;
+use numbers::SequenceNumber;
+use rising::room;
+
+// Whether n is above `last`, or `last` is no last number.
+fn is_beyond(n: SequenceNumber, last: SequenceNumber) -> bool
+    ensures { λ r. ⌜ r ≡ beyond n last ⌝ }
+{
+    let good = last.within(9223372036854775806);
+    let most = last.rank();
+    let k = n.rank();
+    !good | (most < k)
+}
+
+impl ReaderProxy {
+    // The answer of a call that is lent the gap room: 1, 2, 9 or done.
+    fn check_gaps(self, gaps: &[u64], range: bool, full: bool) -> Answer
+        ensures { λ r. ⌜ r ≡ answerOf (rowsOf (row 1 (not (gapsOk self (now (gaps .entry)))) ∷ row 2 range ∷ row 9 full ∷ [])) ⌝ }
+    {
+        let mut rows = Rows::none();
+        rows.incoherent = !self.gaps_ok(gaps);
+        rows.range = range;
+        rows.gaps_full = full;
+        Answer::of(rows)
+    }
+
+    // Whether a gap member takes room: it is above the prefix end, not below acked, and not held.
+    fn needs_room(self, gaps: &[u64], n: u64) -> bool
+        ensures { λ r. ⌜ r ≡ needsRoom n (byGaps self (now (gaps .entry))) ⌝ }
+    {
+        let prefix = self.gap_prefix_end.rank();
+        let acked = self.all_acked_before.rank();
+        let held = room::holds(gaps, self.gap_count, n);
+        (prefix < n) & ((acked <= n) & !held)
+    }
+}
