@@ -38,7 +38,7 @@ only-le p (x ∷ xs) = go (p x) (only-le p xs)
     go true h = omega arith
     go false h = omega arith
 
-insert-le : (n : ℕ) (l : List ℕ) → length (insert n l) ≤ suc (length l)
+pub insert-le : (n : ℕ) (l : List ℕ) → length (insert n l) ≤ suc (length l)
 insert-le n [] = omega arith
 insert-le n (x ∷ xs) = lt (ltb n x) (insert-le n xs)
   where

@@ -16,6 +16,12 @@ use numbers::Rows;
 use numbers::SequenceNumber;
 use rising::room;
 
+fn larger(a: u64, b: u64) -> u64
+    ensures { λ r. ⌜ r ≡ max a b ⌝ }
+{
+    if a < b { b } else { a }
+}
+
 // Whether n is above `last`, or `last` is no last number.
 fn is_beyond(n: SequenceNumber, last: SequenceNumber) -> bool
     ensures { λ r. ⌜ r ≡ beyond n last ⌝ }
@@ -46,5 +52,65 @@ impl ReaderProxy {
         let acked = self.all_acked_before.rank();
         let held = room::holds(gaps, self.gap_count, n);
         (prefix < n) & ((acked <= n) & !held)
+    }
+
+    fn with_gaps(mut self, prefix: u64, count: usize) -> ReaderProxy
+        ensures { λ r. ⌜ r ≡ countGaps prefix count self ⌝ }
+    {
+        self.gap_prefix_end = SequenceNumber::from_rank(prefix);
+        self.gap_count = count;
+        self
+    }
+
+    // A sample that this reader is not to get.
+    pub fn insert_pending_gap(
+        self,
+        gaps: &mut [u64],
+        n: SequenceNumber,
+        last: SequenceNumber,
+    ) -> Changed
+        ensures { λ r. ⌜ Gives1 r (now (gaps .exit)) (gapInsertedOf n last self (now (gaps .entry))) ⌝ }
+    {
+        let needs = self.needs_room(gaps, n.rank());
+        let range = !n.is_sample() | is_beyond(n, last);
+        let answer = self.check_gaps(gaps, range, (256 <= self.gap_count) & needs);
+        if answer.number != 0 {
+            return Changed {
+                answer,
+                proxy: self,
+            };
+        }
+        if !needs {
+            return Changed {
+                answer,
+                proxy: self,
+            };
+        }
+        let count = room::insert(gaps, self.gap_count, n.rank());
+        let proxy = self.with_gaps(self.gap_prefix_end.rank(), count);
+        Changed { answer, proxy }
+    }
+
+    // All samples from 1 through e are not for this reader.
+    pub fn set_pending_gap_up_to(
+        self,
+        gaps: &mut [u64],
+        e: SequenceNumber,
+        last: SequenceNumber,
+    ) -> Changed
+        ensures { λ r. ⌜ Gives1 r (now (gaps .exit)) (gapUpToOf e last self (now (gaps .entry))) ⌝ }
+    {
+        let range = e.is_negative() | is_beyond(e, last);
+        let answer = self.check_gaps(gaps, range, false);
+        if answer.number != 0 {
+            return Changed {
+                answer,
+                proxy: self,
+            };
+        }
+        let end = e.rank();
+        let count = room::keep_from(gaps, self.gap_count, end + 1);
+        let proxy = self.with_gaps(larger(self.gap_prefix_end.rank(), end), count);
+        Changed { answer, proxy }
     }
 }
