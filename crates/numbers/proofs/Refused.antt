@@ -7,7 +7,7 @@ use lib.Dec.{eqb}
 use borrow.Author.Tests.{eq-eqb, ne-eqb, eqb-false}
 use Rattle.numbers.specs.declared.answer.Answer.{Answer}
 use Rattle.numbers.specs.declared.answer.Rows.{Rows}
-use Rattle.numbers.specs.Refusals.{Row, table, firstOf, answerOf, isDone, unless}
+use Rattle.numbers.specs.Refusals.{Row, table, firstOf, answerOf, done, isDone, unless}
 use Rattle.numbers.specs.Promise.{Left1, Left2, Left3, Gives1, Gives2, Gives3}
 
 -- no row of a list holds
@@ -66,6 +66,13 @@ clear r a q e =
       frags-full = n .1 .1 .1 .1 .1 .1 .1 .1 .1 .1 .1 .1 .0;
       nothing = n .1 .1 .1 .1 .1 .1 .1 .1 .1 .1 .1 .1 .1 .0;
     }
+
+-- an answer of 0 is `done`
+pub done-is : (a : Answer) → a .number ≡ 0 → a ≡ done
+done-is a e = ap (λ (n : ℕ). the-answer n) e
+  where
+    the-answer : ℕ → Answer
+    the-answer n = record { number = n }
 
 -- the outcome, by the answer
 module _ {A : Type 0} (r : Rows) (a : Answer) (q : a ≡ answerOf r) (f : Answer → A) (d : A) where
