@@ -2,3 +2,4 @@
 pub mod Number
 pub mod Refusals
 pub mod Promise
+pub mod Cursor

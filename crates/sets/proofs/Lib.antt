@@ -3,3 +3,4 @@ pub mod Has
 pub mod Smallest
 pub mod Those
 pub mod Ext
+pub mod First

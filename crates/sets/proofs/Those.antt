@@ -80,3 +80,48 @@ those-append (suc m) k b p =
 pub those-none : (k b : ℕ) (p : ℕ → Bool) → ((n : ℕ) → b ≤ n → n < b + k → p n ≡ false) → those k b p ≡ []
 those-none zero b p h = refl
 those-none (suc k) b p h = rw (h b (omega arith) (omega arith)) (those-none k (suc b) p (λ n l w. h n (omega arith) (omega arith)))
+
+-- whether n is one of them, for any n
+pub has-those-is : (k b : ℕ) (p : ℕ → Bool) (n : ℕ) → has (those k b p) n ≡ ((leb b n && ltb n (b + k)) && p n)
+has-those-is k b p n = go (decide (leb b n)) (decide (ltb n (b + k))) (decide (p n))
+  where
+    out : (j c : ℕ) → (n < c) ⊎ (c + j ≤ n) → has (those j c p) n ≡ false
+    out zero c h = refl
+    out (suc j) c h = pick (p c) (out j (suc c) (elim h [ inl q ↦ inl (omega arith) | inr q ↦ inr (omega arith) ])) (ne-eqb c n (elim h [ inl q ↦ λ z. omega arith | inr q ↦ λ z. omega arith ]))
+      where
+        pick : (t : Bool) → has (those j (suc c) p) n ≡ false → eqb c n ≡ false → has (cond t (c ∷ those j (suc c) p) (those j (suc c) p)) n ≡ false
+        pick true e f = rw f e
+        pick false e f = e
+
+    fails : (j c : ℕ) → p n ≡ false → has (those j c p) n ≡ false
+    fails zero c e = refl
+    fails (suc j) c e = pick (p c) refl (fails j (suc c) e)
+      where
+        pick : (t : Bool) → p c ≡ t → has (those j (suc c) p) n ≡ false → has (cond t (c ∷ those j (suc c) p) (those j (suc c) p)) n ≡ false
+        pick true f r = rw (ne-eqb c n (λ (z : c ≡ n). true≢false (sym f ∙ ap p z ∙ e))) r
+        pick false f r = r
+
+    go : (leb b n ≡ true) ⊎ (leb b n ≡ false) → (ltb n (b + k) ≡ true) ⊎ (ltb n (b + k) ≡ false) → (p n ≡ true) ⊎ (p n ≡ false) → has (those k b p) n ≡ ((leb b n && ltb n (b + k)) && p n)
+    go (inl e) (inl f) (inl g) = has-those k b p n (leb-true b n e) (ltb-true n (b + k) f) g ∙ sym (rw (e, f, g) refl)
+    go (inl e) (inl f) (inr g) = fails k b g ∙ sym (rw (e, f, g) refl)
+    go (inl e) (inr f) g = out k b (inr (ltb-false n (b + k) f)) ∙ sym (rw (e, f) refl)
+    go (inr e) f g = out k b (inl (leb-false b n e)) ∙ sym (rw e refl)
+
+-- counted from b on or from 0 on
+pub those-shift : (k b c : ℕ) (p q : ℕ → Bool) → ((i : ℕ) → i < k → p (b + i) ≡ q (c + i)) → length (those k b p) ≡ length (those k c q)
+those-shift zero b c p q h = refl
+those-shift (suc k) b c p q h =
+    let e : b + 0 ≡ b = omega arith in
+    let f : c + 0 ≡ c = omega arith in
+    go (p b) (q c) (ap p (sym e) ∙ h 0 (omega arith) ∙ ap q f)
+    (those-shift k (suc b) (suc c) p q (λ i w.
+    let u : suc b + i ≡ b + suc i = omega arith in
+    let v : c + suc i ≡ suc c + i = omega arith in
+    ap p u ∙ h (suc i) (omega arith) ∙ ap q v))
+  where
+    go : (s t : Bool) → s ≡ t → length (those k (suc b) p) ≡ length (those k (suc c) q)
+        → length (cond s (b ∷ those k (suc b) p) (those k (suc b) p)) ≡ length (cond t (c ∷ those k (suc c) q) (those k (suc c) q))
+    go true true e r = ap suc r
+    go true false e r = absurd (true≢false e)
+    go false true e r = absurd (false≢true e)
+    go false false e r = r

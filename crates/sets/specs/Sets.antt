@@ -51,3 +51,12 @@ smallest m l = take m l
 
 abbrev pub largest : ℕ → List ℕ → List ℕ
 largest m l = drop (length l - m) l
+
+-- whether a set has none; and its first, the smallest of a rising one, or d where there is none
+abbrev pub empty : List ℕ → Bool
+empty [] = true
+empty (x ∷ xs) = false
+
+abbrev pub firstOr : ℕ → List ℕ → ℕ
+firstOr d [] = d
+firstOr d (x ∷ xs) = x

@@ -1,0 +1,99 @@
+// A set of fragment numbers as RTPS writes it. As natural numbers it is a set of sequence numbers with a small base, and is read and written as that.
+ghost use mathlib.Core.Path.{_≡_};
+ghost use lib.ListN.{length};
+ghost use Rattle.numbers.specs.Promise.{Gives1};
+ghost use Rattle.number_sets.specs.Bits.{members};
+ghost use Rattle.number_sets.specs.Calls.{fragmentSet, fragmentRows, listed, nextFragmentMember, ofFragments, wideNumber, wideSet};
+use crate::sequence_number_set::Listed;
+use crate::sequence_number_set::SequenceNumberSet;
+use numbers::Answer;
+use numbers::Cursor;
+use numbers::FragmentNumber;
+use numbers::NextFragment;
+use numbers::Rows;
+use numbers::SequenceNumber;
+
+#[repr(C)]
+pub struct FragmentNumberSet {
+    pub base: FragmentNumber,
+    pub count: u32,
+    pub words: [u32; 8],
+}
+
+// A set made for given numbers.
+#[repr(C)]
+pub struct WrittenFragments {
+    pub answer: Answer,
+    pub set: FragmentNumberSet,
+}
+
+// The sequence number that is the same natural number.
+fn wide(n: FragmentNumber) -> SequenceNumber
+    ensures { λ r. ⌜ r ≡ wideNumber n ⌝ }
+{
+    let n = n.0;
+    SequenceNumber(n as i64)
+}
+
+impl FragmentNumberSet {
+    // The same numbers, as sequence numbers.
+    fn widened(self) -> SequenceNumberSet
+        ensures { λ r. ⌜ r ≡ wideSet self ⌝ }
+    {
+        let base = wide(self.base);
+        let count = self.count;
+        let words = self.words;
+        SequenceNumberSet { base, count, words }
+    }
+
+    // The members, rising, as far as the room holds them; how many they are in all.
+    pub fn list_members(self, out: &mut [u64]) -> Listed
+        ensures { λ r. ⌜ Gives1 r (now (out .exit)) (listed (fragmentRows self) (members (fragmentSet self)) (now (out .entry))) ⌝ }
+    {
+        self.widened().list_members(out)
+    }
+
+    // The smallest member at or after the cursor, and the cursor past it.
+    pub fn next_member(self, at: Cursor) -> NextFragment
+        ensures { λ r. ⌜ r ≡ nextFragmentMember self at ⌝ }
+    {
+        let next = self.widened().next_rank(at.from, 4294967295);
+        let count = self.count;
+        let mut rows = Rows::none();
+        rows.bits = 256 < count;
+        rows.nothing = next.none;
+        NextFragment::of(rows, next.rank)
+    }
+
+    // How many members there are.
+    pub fn size(self) -> usize
+        ensures { λ r. ⌜ r ≡ length (members (fragmentSet self)) ⌝ }
+    {
+        self.widened().size()
+    }
+
+    // The set of the given numbers.
+    pub fn of_numbers(base: FragmentNumber, numbers: &[u64]) -> WrittenFragments
+        ensures { λ r. ⌜ r ≡ ofFragments base (now (numbers .entry)) ⌝ }
+    {
+        let made = SequenceNumberSet::of_numbers(wide(base), numbers);
+        let answer = made.answer;
+        let set = made.set;
+        let count = set.count;
+        let words = set.words;
+        if answer.number != 0 {
+            return WrittenFragments {
+                answer,
+                set: FragmentNumberSet {
+                    base: FragmentNumber(0),
+                    count: 0,
+                    words: [0, 0, 0, 0, 0, 0, 0, 0],
+                },
+            };
+        }
+        WrittenFragments {
+            answer,
+            set: FragmentNumberSet { base, count, words },
+        }
+    }
+}
