@@ -10,7 +10,7 @@ use lib.Count.{leadingZeros, leading-top}
 use native.Mathlib.Omega.{arith}
 use native.Mathlib.Nat.{div-one, div-self, div-eq-of-lt, div-eq-of-lt-le, mul-one, mul-mod-left, pow-suc, zero-div, lt-of-lt-of-le, mod-lt, mod-eq-of-lt, mul-assoc, div-mul-le-self, lt-of-le-of-lt}
 use borrow.Author.Tests.{eqb-true, eqb-false, eq-eqb, ne-eqb, ltb-true, ltb-false, leb-true, leb-false, le-leb, lt-leb, lt-ltb, le-ltb}
-use Rattle.sets.proofs.Bools.{decide}
+use Rattle.sets.proofs.Bools.{decide, and-no}
 use Rattle.number_sets.specs.Bits.{bitOf}
 use Rattle.number_sets.specs.Words.{Kept}
 
@@ -135,12 +135,8 @@ module _ (w a e : ℕ) (h : a < e) (k : e ≤ 32) where
   cut-bit : (i : ℕ) → i < 32 → bitOf (w % 2 ^ (32 - a) / 2 ^ (32 - e) * 2 ^ (32 - e)) i ≡ ((leb a i && ltb i e) && bitOf w i)
   cut-bit i u = go (decide (ltb i e)) (decide (leb a i))
     where
-      off : (t : Bool) → (t && false) ≡ false
-      off true = refl
-      off false = refl
-
       go : (ltb i e ≡ true) ⊎ (ltb i e ≡ false) → (leb a i ≡ true) ⊎ (leb a i ≡ false) → bitOf (w % 2 ^ (32 - a) / 2 ^ (32 - e) * 2 ^ (32 - e)) i ≡ ((leb a i && ltb i e) && bitOf w i)
-      go (inr f) g = digit-under (w % 2 ^ (32 - a) / 2 ^ (32 - e)) (32 - e) (31 - i) (omega (arith, ltb-false i e f)) ∙ sym (ap (λ (t : Bool). (leb a i && t) && bitOf w i) f ∙ ap (λ (t : Bool). t && bitOf w i) (off (leb a i)))
+      go (inr f) g = digit-under (w % 2 ^ (32 - a) / 2 ^ (32 - e)) (32 - e) (31 - i) (omega (arith, ltb-false i e f)) ∙ sym (ap (λ (t : Bool). (leb a i && t) && bitOf w i) f ∙ ap (λ (t : Bool). t && bitOf w i) (and-no (leb a i)))
       go (inl f) g =
           let d : 31 - i ≡ 32 - e + (e - suc i) = omega (arith, ltb-true i e f) in
           ap (λ (x : ℕ). digit (w % 2 ^ (32 - a) / 2 ^ (32 - e) * 2 ^ (32 - e)) x) d

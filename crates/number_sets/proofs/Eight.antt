@@ -13,7 +13,7 @@ use native.Mathlib.Omega.{arith}
 use native.Mathlib.Nat.{div-one, div-div-eq-div-mul, pow-succ', pow-suc, div-add-mod, div-lt-iff-lt-mul, zero-lt-suc}
 use borrow.Author.Tests.{eqb-true, eqb-false, eq-eqb, ne-eqb, ltb-true, ltb-false, leb-true, leb-false, le-leb, lt-leb, lt-ltb, le-ltb}
 use Rattle.sets.specs.Sets.{has, From, only, those, firstOr}
-use Rattle.sets.proofs.Bools.{decide}
+use Rattle.sets.proofs.Bools.{decide, and-no}
 use Rattle.sets.proofs.Has.{has-only, From-only}
 use Rattle.sets.proofs.Those.{From-those, has-those-is}
 use Rattle.sets.proofs.First.{first-is, first-none}
@@ -201,14 +201,10 @@ module _ (ws : List ℕ) (k c : ℕ) where
   off : (m : ℕ) → (c ≤ m → m < k → bitAt ws m ≡ false) → has (only (leb c) (those k 0 (bitAt ws))) m ≡ false
   off m f = has-left m ∙ go (decide (leb c m)) (decide (ltb m (0 + k)))
     where
-      no-bit : (t : Bool) → (t && false) ≡ false
-      no-bit true = refl
-      no-bit false = refl
-
       go : (leb c m ≡ true) ⊎ (leb c m ≡ false) → (ltb m (0 + k) ≡ true) ⊎ (ltb m (0 + k) ≡ false) → (leb c m && ((leb 0 m && ltb m (0 + k)) && bitAt ws m)) ≡ false
       go (inr e) g = rw e refl
-      go (inl e) (inr g) = rw (e, g, no-bit (leb 0 m)) refl
-      go (inl e) (inl g) = rw (f (leb-true c m e) (omega (arith, ltb-true m (0 + k) g)), no-bit (leb 0 m && ltb m (0 + k)), no-bit (leb c m)) refl
+      go (inl e) (inr g) = rw (e, g, and-no (leb 0 m)) refl
+      go (inl e) (inl g) = rw (f (leb-true c m e) (omega (arith, ltb-true m (0 + k) g)), and-no (leb 0 m && ltb m (0 + k)), and-no (leb c m)) refl
 
   pub next-bit-none : ((m : ℕ) → c ≤ m → m < k → bitAt ws m ≡ false) → k ≡ nextBit ws k c
   next-bit-none f = sym (first-none k (only (leb c) (those k 0 (bitAt ws))) (λ m. off m (f m)))

@@ -14,7 +14,7 @@ use native.Mathlib.Numerals.{add-one}
 use native.Mathlib.Nat.{div-self, div-eq-of-lt, mul-mod-left, pow-suc, div-add-mod}
 use borrow.Author.Tests.{eqb-true, eqb-false, eq-eqb, ne-eqb, ltb-true, ltb-false, leb-true, leb-false, le-leb, lt-leb, lt-ltb, le-ltb}
 use Rattle.sets.specs.Sets.{has}
-use Rattle.sets.proofs.Bools.{decide, or-assoc}
+use Rattle.sets.proofs.Bools.{decide, or-assoc, or-no}
 use Rattle.number_sets.specs.Bits.{bitOf, bitAt, eightWords, inWindow, span}
 use Rattle.number_sets.specs.Words.{placeIn}
 use Rattle.number_sets.proofs.Bit.{digit}
@@ -78,10 +78,6 @@ module _ (ws : List ℕ) (p : ℕ) (h : Eight ws) (u : p < 256) where
   with-bit : (i : ℕ) → bitAt (withBit ws p) i ≡ (bitAt ws i || eqb p i)
   with-bit i = go (decide (eqb (i / 32) (p / 32)))
     where
-      or-no : (t : Bool) → t ≡ (t || false)
-      or-no true = refl
-      or-no false = refl
-
       go : (eqb (i / 32) (p / 32) ≡ true) ⊎ (eqb (i / 32) (p / 32) ≡ false) → bitAt (withBit ws p) i ≡ (bitAt ws i || eqb p i)
       go (inl e) =
           let q : i / 32 ≡ p / 32 = eqb-true (i / 32) (p / 32) e in
@@ -92,7 +88,7 @@ module _ (ws : List ℕ) (p : ℕ) (h : Eight ws) (u : p < 256) where
           ∙ ap (λ (x : ℕ). bitOf (getD ws x 0) (i % 32) || eqb p i) (sym q)
       go (inr e) =
           ap (λ (x : ℕ). bitOf x (i % 32)) (getD-set-other ws (p / 32) (i / 32) (bitOr (getD ws (p / 32) 0) (2 ^ (31 - p % 32))) 0 (eqb-false (i / 32) (p / 32) e))
-          ∙ or-no (bitAt ws i)
+          ∙ sym (or-no (bitAt ws i))
           ∙ ap (λ (t : Bool). bitAt ws i || t) (sym (ne-eqb p i (λ (z : p ≡ i). eqb-false (i / 32) (p / 32) e (ap (λ (x : ℕ). x / 32) (sym z)))))
 
 -- THE LOOP: what is to be comes of what is there and the numbers left
@@ -176,9 +172,5 @@ joining-end c b ns ws old count words i o h l =
           sym (ap (λ (t : Bool). t || has ns (b + k)) (sym (start k u)) ∙ h .bits k u ∙ ap (λ (s : List ℕ). bitAt words k || has s (b + k)) e ∙ or-no (bitAt words k))),
     )
   where
-    or-no : (t : Bool) → (t || false) ≡ t
-    or-no true = refl
-    or-no false = refl
-
     start : (k : ℕ) → k < 256 → bitAt old k ≡ (ltb k c && bitAt ws k)
     start k u = ap (λ (s : List ℕ). bitAt s k) o ∙ bit-of (λ j. (leb 0 j && ltb j c) && bitAt ws j) k u ∙ ap (λ (t : Bool). (t && ltb k c) && bitAt ws k) (le-leb 0 k (omega arith))

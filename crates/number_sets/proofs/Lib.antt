@@ -7,3 +7,6 @@ pub mod Join
 pub mod Members
 pub mod List
 pub mod Written
+pub mod Meaning
+pub mod Examples
+pub mod Unique

@@ -7,7 +7,7 @@ use mathlib.Core.Logic.{_⊎_, inl, inr}
 use native.Mathlib.Omega.{arith}
 use lib.Dec.{ltb, leb}
 use borrow.Author.Tests.{ltb-true, ltb-false}
-use Rattle.sets.proofs.Bools.{decide, or-assoc}
+use Rattle.sets.proofs.Bools.{decide, or-assoc, or-no}
 use native.Mathlib.Numerals.{add-one}
 use lib.ListN.{length, take, drop, getD, set, length-set, length-append, drop-of-length-le}
 use lib.Seq.{drop-cons, set-at, append-snoc, take-nil, take-all, take-append-le}
@@ -130,7 +130,3 @@ pub looking-end : (b end : ℕ) (ns : List ℕ) (below above : Bool) (i : ℕ) �
 looking-end b end ns below above i h u =
     let d : drop i ns ≡ [] = drop-of-length-le ns u in
     (sym (h .low ∙ ap (λ (l : List ℕ). below || someBelow b l) d ∙ or-no below), sym (h .high ∙ ap (λ (l : List ℕ). above || someFrom end l) d ∙ or-no above))
-  where
-    or-no : (t : Bool) → (t || false) ≡ t
-    or-no true = refl
-    or-no false = refl

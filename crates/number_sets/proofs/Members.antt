@@ -9,7 +9,7 @@ use lib.ListN.{length}
 use native.Mathlib.Omega.{arith}
 use borrow.Author.Tests.{ltb-true, ltb-false, leb-true, leb-false, le-leb, lt-leb, lt-ltb, le-ltb}
 use Rattle.sets.specs.Sets.{has, From, union, only, between, those, empty, firstOr}
-use Rattle.sets.proofs.Bools.{decide, and-left, and-right, clash}
+use Rattle.sets.proofs.Bools.{decide, and-left, and-right, clash, and-no, or-comm}
 use Rattle.sets.proofs.Has.{has-only, has-between, has-union, From-only}
 use Rattle.sets.proofs.Those.{From-those, has-those-is, those-shift}
 use Rattle.sets.proofs.First.{first-is, first-none, first-cases, empty-none, empty-some}
@@ -31,10 +31,6 @@ has-place k b ws i =
 ltb-min : (i x y : ℕ) → ltb i (min x y) ≡ (ltb i x && ltb i y)
 ltb-min i x y = go (decide (ltb i x)) (decide (ltb i y))
   where
-    no : (t : Bool) → (t && false) ≡ false
-    no true = refl
-    no false = refl
-
     go : (ltb i x ≡ true) ⊎ (ltb i x ≡ false) → (ltb i y ≡ true) ⊎ (ltb i y ≡ false) → ltb i (min x y) ≡ (ltb i x && ltb i y)
     go (inl e) (inl f) = lt-ltb i (min x y) (omega (arith, ltb-true i x e, ltb-true i y f)) ∙ sym (rw (e, f) refl)
     go (inr e) f = le-ltb i (min x y) (omega (arith, ltb-false i x e)) ∙ sym (rw e refl)
@@ -76,13 +72,7 @@ joined-words k b ws ns =
     sym (has-union (inWindow b ns) (marked k b ws) (b + i)
     ∙ ap (λ (t : Bool). t || has (marked k b ws) (b + i)) (has-window b ns i u)
     ∙ ap (λ (t : Bool). has ns (b + i) || t) (has-place k b ws i)
-    ∙ swap (has ns (b + i)) (ltb i k && bitAt ws i)))
-  where
-    swap : (p q : Bool) → (p || q) ≡ (q || p)
-    swap true true = refl
-    swap true false = refl
-    swap false true = refl
-    swap false false = refl
+    ∙ or-comm (has ns (b + i)) (ltb i k && bitAt ws i)))
 
 pub size-is : (k b : ℕ) (ws : List ℕ) → length (those k 0 (bitAt ws)) ≡ length (marked k b ws)
 size-is k b ws = those-shift k 0 b (bitAt ws) (λ n. bitAt ws (n - b)) (λ i u. let e : 0 + i ≡ b + i - b = omega arith in ap (bitAt ws) e)

@@ -6,6 +6,7 @@ use mathlib.Core.List.{List, []}
 use native.Mathlib.Omega.{arith}
 use borrow.Author.Tests.{eqb-true}
 use Rattle.sets.specs.Sets.{has, union}
+use Rattle.sets.proofs.Bools.{or-no}
 use Rattle.sets.proofs.Has.{has-union}
 use Rattle.numbers.specs.declared.sequence_number.SequenceNumber.{SequenceNumber}
 use Rattle.numbers.specs.declared.answer.Rows.{Rows}
@@ -26,10 +27,6 @@ joined-empty b ns =
     let e : wordsFor (rankOf b) (union (inWindow (rankOf b) ns) []) ≡ wordsFor (rankOf b) (inWindow (rankOf b) ns) =
     words-same (λ i. has (union w []) (rankOf b + i)) (λ i. has w (rankOf b + i)) (λ i u. has-union w [] (rankOf b + i) ∙ or-no (has w (rankOf b + i))) in
     rw (c, e)
-  where
-    or-no : (t : Bool) → (t || false) ≡ t
-    or-no true = refl
-    or-no false = refl
 
 -- what is written, or not
 pub made-answer : (r : Rows) (s : SequenceNumberSet) → unless r notWritten (written s) .answer ≡ answerOf r

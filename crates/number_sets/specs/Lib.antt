@@ -2,3 +2,4 @@
 pub mod Bits
 pub mod Words
 pub mod Calls
+pub mod Examples

@@ -50,3 +50,17 @@ clash false p q = absurd (false≢true p)
 pub decide : (b : Bool) → (b ≡ true) ⊎ (b ≡ false)
 decide true = inl refl
 decide false = inr refl
+
+pub and-no : (t : Bool) → (t && false) ≡ false
+and-no true = refl
+and-no false = refl
+
+pub or-no : (t : Bool) → (t || false) ≡ t
+or-no true = refl
+or-no false = refl
+
+pub or-comm : (a b : Bool) → (a || b) ≡ (b || a)
+or-comm true true = refl
+or-comm true false = refl
+or-comm false true = refl
+or-comm false false = refl
