@@ -79,7 +79,7 @@ span-has b (x ∷ xs) n e h = go (eqb x n) refl e (span-has b xs n)
     go true f w r = omega (arith, eqb-true x n f)
     go false f w r = omega (arith, r w h)
 
-span-window : (b : ℕ) (ns : List ℕ) → span b (inWindow b ns) ≤ 256
+pub span-window : (b : ℕ) (ns : List ℕ) → span b (inWindow b ns) ≤ 256
 span-window b [] = omega arith
 span-window b (n ∷ ns) = go (decide (leb b n)) (decide (leb n (b + 255))) (span-window b ns)
   where

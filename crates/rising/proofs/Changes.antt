@@ -38,6 +38,26 @@ only-le p (x ∷ xs) = go (p x) (only-le p xs)
     go true h = omega arith
     go false h = omega arith
 
+-- what is from b on, and of that what is through e
+pub between-room : (p c : ℕ) (a : List ℕ) → RunIs p c a → (b e k n : ℕ) (v u : List ℕ) → Gives1 k v (inRoom (fromOn b) c a) → Gives1 n u (inRoom (before (e + 1)) k v)
+    → (n ≡ length (between b e (take c a))) × (u ≡ roomOf (length a) (between b e (take c a)))
+between-room p c a r b e k n v u g h =
+    let l = take c a in
+    let some = only (leb b) (take c a) in
+    let few : length (take c a) ≤ length a = omega (arith, length-take c a) in
+    let fit : length (only (leb b) (take c a)) ≤ length a = omega (arith, only-le (leb b) (take c a)) in
+    let w = in-room p c a (fromOn b) (only (leb b) (take c a)) r (from-only b (suc p) (take c a) (r .rises .from)) fit k v g in
+    let rs = rising-only p (leb b) (take c a) (r .rises) in
+    let lv : length v ≡ length a = ap length (w .1) ∙ room-length (length a) (only (leb b) (take c a)) fit in
+    let ok : RunIs p k v = run-is p k v (rw (w .0, w .1) (room-ok p (length a) (only (leb b) (take c a)) fit rs)) in
+    let tk : take k v ≡ only (leb b) (take c a) = rw (w .0, w .1) (room-take (length a) (only (leb b) (take c a))) in
+    let z1 : e + 1 ≡ suc e = omega arith in
+    let bt : before (e + 1) (take k v) ≡ between b e (take c a) =
+    ap (before (e + 1)) tk ∙ ap (λ (x : ℕ). before x (only (leb b) (take c a))) z1 ∙ before-only (suc e) (suc p) (only (leb b) (take c a)) (rs .from) ∙ between-is b e (take c a) in
+    let fb : length (between b e (take c a)) ≤ length a = omega (arith, only-le (λ x. leb b x && leb x e) (take c a)) in
+    let y = in-room p k v (before (e + 1)) (between b e (take c a)) ok bt (omega arith) n u h in
+    (y .0, y .1 ∙ ap (λ (x : ℕ). roomOf x (between b e (take c a))) lv)
+
 pub insert-le : (n : ℕ) (l : List ℕ) → length (insert n l) ≤ suc (length l)
 insert-le n [] = omega arith
 insert-le n (x ∷ xs) = lt (ltb n x) (insert-le n xs)
@@ -95,22 +115,10 @@ module _ (s : RisingSet) (room : List ℕ) (rows : List Row) (a : Answer) (q : a
     pub between-done : (b e c n : ℕ) (v u : List ℕ) → Gives1 c v (inRoom (fromOn b) (s .count) room) → Gives1 n u (inRoom (before (e + 1)) c v)
         → Gives1 (record { answer = a; set = record { count = n } }) u (changedBy rows (between b e) s room)
     between-done b e c n v u k j =
-        let l = membersOf s room in
-        let some = only (leb b) (membersOf s room) in
-        let fit : length (only (leb b) (membersOf s room)) ≤ length room = omega (arith, only-le (leb b) (membersOf s room), members-fit) in
-        let w = in-room 0 (s .count) room (fromOn b) (only (leb b) (membersOf s room)) run-of (from-only b 1 (membersOf s room) (run-of .rises .from)) fit c v k in
-        let rs = rising-only 0 (leb b) (membersOf s room) (run-of .rises) in
-        let lv : length v ≡ length room = ap length (w .1) ∙ room-length (length room) (only (leb b) (membersOf s room)) fit in
-        let ok : RunIs 0 c v = run-is 0 c v (rw (w .0, w .1) (room-ok 0 (length room) (only (leb b) (membersOf s room)) fit rs)) in
-        let tk : take c v ≡ only (leb b) (membersOf s room) = rw (w .0, w .1) (room-take (length room) (only (leb b) (membersOf s room))) in
-        let z1 : e + 1 ≡ suc e = omega arith in
-        let bt : before (e + 1) (take c v) ≡ between b e (membersOf s room) =
-        ap (before (e + 1)) tk ∙ ap (λ (x : ℕ). before x (only (leb b) (membersOf s room))) z1 ∙ before-only (suc e) 1 (only (leb b) (membersOf s room)) (rs .from) ∙ between-is b e (membersOf s room) in
-        let fb : length (between b e (membersOf s room)) ≤ length room = omega (arith, only-le (λ x. leb b x && leb x e) (membersOf s room), members-fit) in
-        let y = in-room 0 c v (before (e + 1)) (between b e (membersOf s room)) ok bt (omega arith) n u j in
+        let y = between-room 0 (s .count) room run-of b e c n v u k j in
         gives1 (record { answer = a; set = record { count = n } }) u (holding (length room) (between b e (membersOf s room))) (changedBy rows (between b e) s room)
         (is-done (rowsOf (checked s room rows)) a q (unchanged s room) (holding (length room) (between b e (membersOf s room))) z)
-        (rw (done-is a z, y .0)) (y .1 ∙ ap (λ (x : ℕ). roomOf x (between b e (membersOf s room))) lv)
+        (rw (done-is a z, y .0)) (y .1)
 
     -- a number that has room
     pub insert-done : (m n : ℕ) (u : List ℕ) → isFull m s room ≡ false → Gives1 n u (inRoom (insertWithin (length room) m) (s .count) room)

@@ -23,6 +23,15 @@ place-le n (x ∷ xs) = go (leb n x) (place-le n xs)
     go true h = zero-le
     go false h = suc-le-suc h
 
+pub place-mono : (lo hi : ℕ) (l : List ℕ) → lo ≤ hi → placeOf lo l ≤ placeOf hi l
+place-mono lo hi [] q = zero-le
+place-mono lo hi (x ∷ xs) q = go (leb lo x) refl (leb hi x) refl (place-mono lo hi xs q)
+  where
+    go : (s : Bool) → leb lo x ≡ s → (t : Bool) → leb hi x ≡ t → placeOf lo xs ≤ placeOf hi xs → cond s 0 (suc (placeOf lo xs)) ≤ cond t 0 (suc (placeOf hi xs))
+    go true d t e r = zero-le
+    go false d true e r = absurd (omega (arith, leb-false lo x d, leb-true hi x e))
+    go false d false e r = suc-le-suc r
+
 pub insert-has : (n : ℕ) (l : List ℕ) → holdsAt n l (placeOf n l) ≡ true → insert n l ≡ l
 insert-has n [] h = absurd (false≢true h)
 insert-has n (x ∷ xs) h = go (leb n x) refl h (insert-has n xs)

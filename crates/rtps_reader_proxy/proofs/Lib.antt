@@ -1,3 +1,5 @@
 -- Laws that belong to no one function.
 pub mod UnsentCalls
 pub mod GapCalls
+pub mod Joins
+pub mod AckCalls

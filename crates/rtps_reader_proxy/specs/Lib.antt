@@ -3,3 +3,4 @@ pub mod Reader
 pub mod Record
 pub mod Unsent
 pub mod Gaps
+pub mod Acks

@@ -2,25 +2,19 @@
 ghost use mathlib.Core.Path.{_≡_};
 ghost use mathlib.Core.List.{[], _∷_};
 ghost use mathlib.Core.Bool.{not, _||_};
-ghost use Prim.Native.Nat.{max};
 ghost use Rattle.numbers.specs.Number.{rankOf};
 ghost use Rattle.numbers.specs.Promise.{Gives1};
 ghost use Rattle.numbers.specs.Refusals.{row, rowsOf, answerOf};
 ghost use Rattle.rtps_reader_proxy.specs.Reader.{needsRoom};
 ghost use Rattle.rtps_reader_proxy.specs.Record.{gapsOk};
 ghost use Rattle.rtps_reader_proxy.specs.Gaps.{byGaps, beyond, gapInsertedOf, gapUpToOf, countGaps};
+use crate::arith;
 use crate::proxy::Changed;
 use crate::proxy::ReaderProxy;
 use numbers::Answer;
 use numbers::Rows;
 use numbers::SequenceNumber;
 use rising::room;
-
-fn larger(a: u64, b: u64) -> u64
-    ensures { λ r. ⌜ r ≡ max a b ⌝ }
-{
-    if a < b { b } else { a }
-}
 
 // Whether n is above `last`, or `last` is no last number.
 fn is_beyond(n: SequenceNumber, last: SequenceNumber) -> bool
@@ -110,7 +104,7 @@ impl ReaderProxy {
         }
         let end = e.rank();
         let count = room::keep_from(gaps, self.gap_count, end + 1);
-        let proxy = self.with_gaps(larger(self.gap_prefix_end.rank(), end), count);
+        let proxy = self.with_gaps(arith::larger(self.gap_prefix_end.rank(), end), count);
         Changed { answer, proxy }
     }
 }

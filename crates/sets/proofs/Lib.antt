@@ -4,3 +4,4 @@ pub mod Smallest
 pub mod Those
 pub mod Ext
 pub mod First
+pub mod Append

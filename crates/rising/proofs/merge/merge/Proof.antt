@@ -8,9 +8,6 @@ use Rattle.rising.proofs.Merging.{Merging, merging-start, merging-write
 use borrow.Author.Needs.{needs}
 use Rattle.rising.proofs.merge.merge.Statement.{statement}
 use Rattle.rising.proofs.merge.merge.Tie as tie
-use Rattle.rising.proofs.merge.merge.Reads as reads
-use Rattle.rising.proofs.merge.merge.Lts as lts
-use Rattle.rising.proofs.merge.next_turn.Reads as next-turn-reads
 
 abbrev Inv-loop : tie.InvT-loop
 Inv-loop s t out₀ i₀ j₀ k₀ out i j k = Merging s t out₀ out i j k

@@ -3,8 +3,6 @@ use Rattle.rising.proofs.Merging.{by-second, by-both, by-first, first-a
 use borrow.Author.Needs.{needs}
 use Rattle.rising.proofs.merge.next_turn.Statement.{statement}
 use Rattle.rising.proofs.merge.next_turn.Tie as tie
-use Rattle.rising.proofs.merge.next_turn.Reads as reads
-use Rattle.rising.proofs.merge.next_turn.Lts as lts
 
 mul-x : tie.Need-mul-x
 mul-x c = search needs

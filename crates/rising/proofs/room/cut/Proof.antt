@@ -11,10 +11,6 @@ use Rattle.rising.proofs.Inserts.{place-in, removed-held, removed-none,
 use borrow.Author.Needs.{needs}
 use Rattle.rising.proofs.room.cut.Statement.{statement}
 use Rattle.rising.proofs.room.cut.Tie as tie
-use Rattle.rising.proofs.room.cut.Reads as reads
-use Rattle.rising.proofs.room.cut.Lts as lts
-use Rattle.rising.proofs.run.drop_front.Reads as drop-front-reads
-use Rattle.rising.proofs.run.smaller.Reads as smaller-reads
 
 returns : tie.Need-returns
 returns c = search (needs, past-room)

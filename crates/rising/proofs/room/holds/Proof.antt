@@ -10,10 +10,6 @@ use Rattle.rising.proofs.Scans.{take-min}
 use borrow.Author.Needs.{needs}
 use Rattle.rising.proofs.room.holds.Statement.{statement}
 use Rattle.rising.proofs.room.holds.Tie as tie
-use Rattle.rising.proofs.room.holds.Reads as reads
-use Rattle.rising.proofs.room.holds.Lts as lts
-use Rattle.rising.proofs.run.contains.Reads as contains-reads
-use Rattle.rising.proofs.run.smaller.Reads as smaller-reads
 
 smaller-requires : tie.Need-smaller-requires
 smaller-requires c κs = search needs

@@ -11,10 +11,6 @@ use Rattle.rising.proofs.Inserts.{place-in, removed-held, removed-none,
 use borrow.Author.Needs.{needs}
 use Rattle.rising.proofs.room.keep_from.Statement.{statement}
 use Rattle.rising.proofs.room.keep_from.Tie as tie
-use Rattle.rising.proofs.room.keep_from.Reads as reads
-use Rattle.rising.proofs.room.keep_from.Lts as lts
-use Rattle.rising.proofs.room.cut.Reads as cut-reads
-use Rattle.rising.proofs.run.place.Reads as place-reads
 
 returns : tie.Need-returns
 returns c = search (needs, past-room)

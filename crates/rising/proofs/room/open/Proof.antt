@@ -11,10 +11,6 @@ use Rattle.rising.proofs.Inserts.{place-in, removed-held, removed-none,
 use borrow.Author.Needs.{needs}
 use Rattle.rising.proofs.room.open.Statement.{statement}
 use Rattle.rising.proofs.room.open.Tie as tie
-use Rattle.rising.proofs.room.open.Reads as reads
-use Rattle.rising.proofs.room.open.Lts as lts
-use Rattle.rising.proofs.run.lift.Reads as lift-reads
-use Rattle.rising.proofs.run.smaller.Reads as smaller-reads
 
 returns : tie.Need-returns
 returns c = search (needs, past-room)

@@ -11,9 +11,6 @@ use Rattle.rising.proofs.Inserts.{place-in, removed-held, removed-none,
 use borrow.Author.Needs.{needs}
 use Rattle.rising.proofs.room.put.Statement.{statement}
 use Rattle.rising.proofs.room.put.Tie as tie
-use Rattle.rising.proofs.room.put.Reads as reads
-use Rattle.rising.proofs.room.put.Lts as lts
-use Rattle.rising.proofs.run.lift.Reads as lift-reads
 
 add-end : tie.Need-add-end
 add-end c = search needs

@@ -11,11 +11,6 @@ use Rattle.rising.proofs.Inserts.{place-in, removed-held, removed-none,
 use borrow.Author.Needs.{needs}
 use Rattle.rising.proofs.room.remove.Statement.{statement}
 use Rattle.rising.proofs.room.remove.Tie as tie
-use Rattle.rising.proofs.room.remove.Reads as reads
-use Rattle.rising.proofs.room.remove.Lts as lts
-use Rattle.rising.proofs.room.cut.Reads as cut-reads
-use Rattle.rising.proofs.run.holds_at.Reads as holds-at-reads
-use Rattle.rising.proofs.run.place.Reads as place-reads
 
 returns : tie.Need-returns
 returns c = search (needs, past-room)

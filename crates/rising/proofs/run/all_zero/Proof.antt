@@ -14,8 +14,6 @@ use Rattle.rising.proofs.Scans.{rises-more, rises-end, zeros-more, zero
 use borrow.Author.Needs.{needs}
 use Rattle.rising.proofs.run.all_zero.Statement.{statement}
 use Rattle.rising.proofs.run.all_zero.Tie as tie
-use Rattle.rising.proofs.run.all_zero.Reads as reads
-use Rattle.rising.proofs.run.all_zero.Lts as lts
 
 abbrev Inv-loop : tie.InvT-loop
 Inv-loop s acc₀ i₀ acc i = zeros s ≡ (eqb acc 0 && zeros (drop i s))

@@ -8,8 +8,6 @@ use Rattle.rising.proofs.Scans.{has-more, has-end}
 use borrow.Author.Needs.{needs}
 use Rattle.rising.proofs.run.contains.Statement.{statement}
 use Rattle.rising.proofs.run.contains.Tie as tie
-use Rattle.rising.proofs.run.contains.Reads as reads
-use Rattle.rising.proofs.run.contains.Lts as lts
 
 abbrev Inv-loop : tie.InvT-loop
 Inv-loop s n found₀ i₀ found i = has s n ≡ (found || has (drop i s) n)

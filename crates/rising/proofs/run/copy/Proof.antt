@@ -9,9 +9,6 @@ use Rattle.rising.proofs.Lists.{upto, upto-more, filled-length, filled-
 use borrow.Author.Needs.{needs}
 use Rattle.rising.proofs.run.copy.Statement.{statement}
 use Rattle.rising.proofs.run.copy.Tie as tie
-use Rattle.rising.proofs.run.copy.Reads as reads
-use Rattle.rising.proofs.run.copy.Lts as lts
-use Rattle.rising.proofs.run.smaller.Reads as smaller-reads
 
 abbrev Inv-loop : tie.InvT-loop
 Inv-loop from to₀ n i₀ to i = (i ≤ n) × (n ≡ min (length from) (length to₀)) × (length to ≡ length to₀) × (to ≡ upto (filled from to₀) to₀ i)

@@ -9,8 +9,6 @@ use Rattle.rising.proofs.Lists.{here, done, upto, upto-more, upto-kept,
 use borrow.Author.Needs.{needs}
 use Rattle.rising.proofs.run.drop_front.Statement.{statement}
 use Rattle.rising.proofs.run.drop_front.Tie as tie
-use Rattle.rising.proofs.run.drop_front.Reads as reads
-use Rattle.rising.proofs.run.drop_front.Lts as lts
 
 abbrev Inv-loop : tie.InvT-loop
 Inv-loop s₀ k i₀ s i = (i ≤ length s₀) × (length s ≡ length s₀) × (s ≡ upto (dropped k s₀) s₀ i)

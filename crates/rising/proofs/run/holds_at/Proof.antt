@@ -14,8 +14,6 @@ use Rattle.rising.proofs.Scans.{rises-more, rises-end, zeros-more, zero
 use borrow.Author.Needs.{needs}
 use Rattle.rising.proofs.run.holds_at.Statement.{statement}
 use Rattle.rising.proofs.run.holds_at.Tie as tie
-use Rattle.rising.proofs.run.holds_at.Reads as reads
-use Rattle.rising.proofs.run.holds_at.Lts as lts
 
 mul-result : tie.Need-mul-result
 mul-result c = search needs

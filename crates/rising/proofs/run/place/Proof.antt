@@ -14,8 +14,6 @@ use Rattle.rising.proofs.Scans.{rises-more, rises-end, zeros-more, zero
 use borrow.Author.Needs.{needs}
 use Rattle.rising.proofs.run.place.Statement.{statement}
 use Rattle.rising.proofs.run.place.Tie as tie
-use Rattle.rising.proofs.run.place.Reads as reads
-use Rattle.rising.proofs.run.place.Lts as lts
 
 abbrev Inv-loop : tie.InvT-loop
 Inv-loop s n i₀ i = placeOf n s ≡ i + placeOf n (drop i s)

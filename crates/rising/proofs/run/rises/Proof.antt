@@ -14,8 +14,6 @@ use Rattle.rising.proofs.Scans.{rises-more, rises-end, zeros-more, zero
 use borrow.Author.Needs.{needs}
 use Rattle.rising.proofs.run.rises.Statement.{statement}
 use Rattle.rising.proofs.run.rises.Tie as tie
-use Rattle.rising.proofs.run.rises.Reads as reads
-use Rattle.rising.proofs.run.rises.Lts as lts
 
 abbrev Inv-loop : tie.InvT-loop
 Inv-loop s above good₀ low₀ i₀ good low i = risesAbove above s ≡ (good && risesAbove low (drop i s))

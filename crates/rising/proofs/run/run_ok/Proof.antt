@@ -5,10 +5,6 @@ use lib.Seq.{length-take-le}
 use borrow.Author.Needs.{needs}
 use Rattle.rising.proofs.run.run_ok.Statement.{statement}
 use Rattle.rising.proofs.run.run_ok.Tie as tie
-use Rattle.rising.proofs.run.run_ok.Reads as reads
-use Rattle.rising.proofs.run.run_ok.Lts as lts
-use Rattle.rising.proofs.run.all_zero.Reads as all-zero-reads
-use Rattle.rising.proofs.run.rises.Reads as rises-reads
 
 returns : tie.Need-returns
 returns c = search (needs, run-short)

@@ -8,10 +8,6 @@ use lib.ListN.{length, take}
 use borrow.Author.Needs.{needs}
 use Rattle.rtps_reader_proxy.proofs.gaps.is_beyond.Statement.{statement}
 use Rattle.rtps_reader_proxy.proofs.gaps.is_beyond.Tie as tie
-use Rattle.rtps_reader_proxy.proofs.gaps.is_beyond.Reads as reads
-use Rattle.rtps_reader_proxy.proofs.gaps.is_beyond.Lts as lts
-use Rattle.numbers.proofs.sequence_number.SequenceNumber.rank.Reads as rank-reads
-use Rattle.numbers.proofs.sequence_number.SequenceNumber.within.Reads as within-reads
 
 within-requires : tie.Need-within-requires
 within-requires c κs = search needs

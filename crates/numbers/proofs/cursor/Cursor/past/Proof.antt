@@ -3,8 +3,6 @@ use borrow.Author.Tests.{lt-ltb, le-ltb}
 use borrow.Author.Needs.{needs}
 use Rattle.numbers.proofs.cursor.Cursor.past.Statement.{statement}
 use Rattle.numbers.proofs.cursor.Cursor.past.Tie as tie
-use Rattle.numbers.proofs.cursor.Cursor.past.Reads as reads
-use Rattle.numbers.proofs.cursor.Cursor.past.Lts as lts
 
 add-t4 : tie.Need-add-t4
 add-t4 c = search needs

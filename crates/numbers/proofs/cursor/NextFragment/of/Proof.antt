@@ -5,11 +5,6 @@ use Rattle.numbers.specs.Cursor.{noFragment, thisFragment}
 use borrow.Author.Needs.{needs}
 use Rattle.numbers.proofs.cursor.NextFragment.of.Statement.{statement}
 use Rattle.numbers.proofs.cursor.NextFragment.of.Tie as tie
-use Rattle.numbers.proofs.cursor.NextFragment.of.Reads as reads
-use Rattle.numbers.proofs.cursor.NextFragment.of.Lts as lts
-use Rattle.numbers.proofs.answer.Answer.of.Reads as of-reads
-use Rattle.numbers.proofs.cursor.Cursor.past.Reads as past-reads
-use Rattle.numbers.proofs.fragment_number.FragmentNumber.from_rank.Reads as from-rank-reads
 
 of-requires : tie.Need-of-requires
 of-requires c κs = search needs

@@ -5,11 +5,6 @@ use Rattle.numbers.specs.Cursor.{noNumber, thisNumber}
 use borrow.Author.Needs.{needs}
 use Rattle.numbers.proofs.cursor.NextNumber.of.Statement.{statement}
 use Rattle.numbers.proofs.cursor.NextNumber.of.Tie as tie
-use Rattle.numbers.proofs.cursor.NextNumber.of.Reads as reads
-use Rattle.numbers.proofs.cursor.NextNumber.of.Lts as lts
-use Rattle.numbers.proofs.answer.Answer.of.Reads as of-reads
-use Rattle.numbers.proofs.cursor.Cursor.past.Reads as past-reads
-use Rattle.numbers.proofs.sequence_number.SequenceNumber.from_rank.Reads as from-rank-reads
 
 of-requires : tie.Need-of-requires
 of-requires c κs = search needs

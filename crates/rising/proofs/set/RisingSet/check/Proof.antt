@@ -14,11 +14,6 @@ use Rattle.rising.proofs.Changes.{change-refused, change-done, remove-d
 use borrow.Author.Needs.{needs}
 use Rattle.rising.proofs.set.RisingSet.check.Statement.{statement}
 use Rattle.rising.proofs.set.RisingSet.check.Tie as tie
-use Rattle.rising.proofs.set.RisingSet.check.Reads as reads
-use Rattle.rising.proofs.set.RisingSet.check.Lts as lts
-use Rattle.numbers.proofs.answer.Answer.of.Reads as of-reads
-use Rattle.numbers.proofs.answer.Rows.none.Reads as none-reads
-use Rattle.rising.proofs.set.RisingSet.coherent.Reads as coherent-reads
 
 none-requires : tie.Need-none-requires
 none-requires c κs = search needs

@@ -16,13 +16,6 @@ use Rattle.rising.proofs.Changes.{change-refused, change-done, remove-d
 use borrow.Author.Needs.{needs}
 use Rattle.rising.proofs.set.RisingSet.insert.Statement.{statement}
 use Rattle.rising.proofs.set.RisingSet.insert.Tie as tie
-use Rattle.rising.proofs.set.RisingSet.insert.Reads as reads
-use Rattle.rising.proofs.set.RisingSet.insert.Lts as lts
-use Rattle.numbers.proofs.sequence_number.SequenceNumber.is_sample.Reads as is-sample-reads
-use Rattle.numbers.proofs.sequence_number.SequenceNumber.rank.Reads as rank-reads
-use Rattle.rising.proofs.room.holds.Reads as holds-reads
-use Rattle.rising.proofs.room.insert.Reads as insert-reads
-use Rattle.rising.proofs.set.RisingSet.check.Reads as check-reads
 
 rank-requires : tie.Need-rank-requires
 rank-requires c κs = search needs

@@ -16,13 +16,6 @@ use Rattle.rising.proofs.Changes.{change-refused, change-done, remove-d
 use borrow.Author.Needs.{needs}
 use Rattle.rising.proofs.set.RisingSet.join.Statement.{statement}
 use Rattle.rising.proofs.set.RisingSet.join.Tie as tie
-use Rattle.rising.proofs.set.RisingSet.join.Reads as reads
-use Rattle.rising.proofs.set.RisingSet.join.Lts as lts
-use Rattle.numbers.proofs.answer.Answer.of.Reads as of-reads
-use Rattle.numbers.proofs.answer.Rows.none.Reads as none-reads
-use Rattle.rising.proofs.merge.merge.Reads as merge-reads
-use Rattle.rising.proofs.room.cut.Reads as cut-reads
-use Rattle.rising.proofs.set.RisingSet.coherent.Reads as coherent-reads
 
 coherent-requires : tie.Need-coherent-requires
 coherent-requires c κs = search needs

@@ -16,12 +16,6 @@ use Rattle.rising.proofs.Changes.{change-refused, change-done, remove-d
 use borrow.Author.Needs.{needs}
 use Rattle.rising.proofs.set.RisingSet.keep_between.Statement.{statement}
 use Rattle.rising.proofs.set.RisingSet.keep_between.Tie as tie
-use Rattle.rising.proofs.set.RisingSet.keep_between.Reads as reads
-use Rattle.rising.proofs.set.RisingSet.keep_between.Lts as lts
-use Rattle.numbers.proofs.sequence_number.SequenceNumber.rank.Reads as rank-reads
-use Rattle.rising.proofs.room.keep_before.Reads as keep-before-reads
-use Rattle.rising.proofs.room.keep_from.Reads as keep-from-reads
-use Rattle.rising.proofs.set.RisingSet.check.Reads as check-reads
 
 check-requires : tie.Need-check-requires
 check-requires c κs = search needs

@@ -16,11 +16,6 @@ use Rattle.rising.proofs.Changes.{change-refused, change-done, remove-d
 use borrow.Author.Needs.{needs}
 use Rattle.rising.proofs.set.RisingSet.remove.Statement.{statement}
 use Rattle.rising.proofs.set.RisingSet.remove.Tie as tie
-use Rattle.rising.proofs.set.RisingSet.remove.Reads as reads
-use Rattle.rising.proofs.set.RisingSet.remove.Lts as lts
-use Rattle.numbers.proofs.sequence_number.SequenceNumber.rank.Reads as rank-reads
-use Rattle.rising.proofs.room.remove.Reads as remove-reads
-use Rattle.rising.proofs.set.RisingSet.check.Reads as check-reads
 
 check-requires : tie.Need-check-requires
 check-requires c κs = search needs

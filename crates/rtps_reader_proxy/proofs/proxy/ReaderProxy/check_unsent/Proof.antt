@@ -8,11 +8,6 @@ use lib.ListN.{length, take}
 use borrow.Author.Needs.{needs}
 use Rattle.rtps_reader_proxy.proofs.proxy.ReaderProxy.check_unsent.Statement.{statement}
 use Rattle.rtps_reader_proxy.proofs.proxy.ReaderProxy.check_unsent.Tie as tie
-use Rattle.rtps_reader_proxy.proofs.proxy.ReaderProxy.check_unsent.Reads as reads
-use Rattle.rtps_reader_proxy.proofs.proxy.ReaderProxy.check_unsent.Lts as lts
-use Rattle.numbers.proofs.answer.Answer.of.Reads as of-reads
-use Rattle.numbers.proofs.answer.Rows.none.Reads as none-reads
-use Rattle.rtps_reader_proxy.proofs.proxy.ReaderProxy.unsent_ok.Reads as unsent-ok-reads
 
 none-requires : tie.Need-none-requires
 none-requires c κs = search needs

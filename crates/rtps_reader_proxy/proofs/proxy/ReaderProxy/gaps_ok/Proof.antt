@@ -8,11 +8,6 @@ use lib.ListN.{length, take}
 use borrow.Author.Needs.{needs}
 use Rattle.rtps_reader_proxy.proofs.proxy.ReaderProxy.gaps_ok.Statement.{statement}
 use Rattle.rtps_reader_proxy.proofs.proxy.ReaderProxy.gaps_ok.Tie as tie
-use Rattle.rtps_reader_proxy.proofs.proxy.ReaderProxy.gaps_ok.Reads as reads
-use Rattle.rtps_reader_proxy.proofs.proxy.ReaderProxy.gaps_ok.Lts as lts
-use Rattle.rising.proofs.run.run_ok.Reads as run-ok-reads
-use Rattle.rtps_reader_proxy.proofs.proxy.ReaderProxy.gap_floor.Reads as gap-floor-reads
-use Rattle.rtps_reader_proxy.proofs.proxy.ReaderProxy.head_ok.Reads as head-ok-reads
 
 head-ok-requires : tie.Need-head-ok-requires
 head-ok-requires c κs = search needs

@@ -8,9 +8,6 @@ use lib.ListN.{length, take}
 use borrow.Author.Needs.{needs}
 use Rattle.rtps_reader_proxy.proofs.proxy.ReaderProxy.head_ok.Statement.{statement}
 use Rattle.rtps_reader_proxy.proofs.proxy.ReaderProxy.head_ok.Tie as tie
-use Rattle.rtps_reader_proxy.proofs.proxy.ReaderProxy.head_ok.Reads as reads
-use Rattle.rtps_reader_proxy.proofs.proxy.ReaderProxy.head_ok.Lts as lts
-use Rattle.numbers.proofs.sequence_number.SequenceNumber.within.Reads as within-reads
 
 within-requires : tie.Need-within-requires
 within-requires c κs = search needs

@@ -20,15 +20,6 @@ use Rattle.rtps_reader_proxy.proofs.proxy.ReaderProxy.insert_pending_ga
   statement,
 }
 use Rattle.rtps_reader_proxy.proofs.proxy.ReaderProxy.insert_pending_gap.Tie as tie
-use Rattle.rtps_reader_proxy.proofs.proxy.ReaderProxy.insert_pending_gap.Reads as reads
-use Rattle.rtps_reader_proxy.proofs.proxy.ReaderProxy.insert_pending_gap.Lts as lts
-use Rattle.numbers.proofs.sequence_number.SequenceNumber.is_sample.Reads as is-sample-reads
-use Rattle.numbers.proofs.sequence_number.SequenceNumber.rank.Reads as rank-reads
-use Rattle.rising.proofs.room.insert.Reads as insert-reads
-use Rattle.rtps_reader_proxy.proofs.gaps.is_beyond.Reads as is-beyond-reads
-use Rattle.rtps_reader_proxy.proofs.proxy.ReaderProxy.check_gaps.Reads as check-gaps-reads
-use Rattle.rtps_reader_proxy.proofs.proxy.ReaderProxy.needs_room.Reads as needs-room-reads
-use Rattle.rtps_reader_proxy.proofs.proxy.ReaderProxy.with_gaps.Reads as with-gaps-reads
 
 rank-requires : tie.Need-rank-requires
 rank-requires c κs = search needs

@@ -15,12 +15,6 @@ use Rattle.rtps_reader_proxy.proofs.proxy.ReaderProxy.mark_change_sent.
   statement,
 }
 use Rattle.rtps_reader_proxy.proofs.proxy.ReaderProxy.mark_change_sent.Tie as tie
-use Rattle.rtps_reader_proxy.proofs.proxy.ReaderProxy.mark_change_sent.Reads as reads
-use Rattle.rtps_reader_proxy.proofs.proxy.ReaderProxy.mark_change_sent.Lts as lts
-use Rattle.numbers.proofs.sequence_number.SequenceNumber.rank.Reads as rank-reads
-use Rattle.rising.proofs.room.remove.Reads as remove-reads
-use Rattle.rtps_reader_proxy.proofs.proxy.ReaderProxy.check_unsent.Reads as check-unsent-reads
-use Rattle.rtps_reader_proxy.proofs.proxy.ReaderProxy.with_unsent.Reads as with-unsent-reads
 
 check-unsent-requires : tie.Need-check-unsent-requires
 check-unsent-requires c κs = search needs

@@ -8,10 +8,6 @@ use lib.ListN.{length, take}
 use borrow.Author.Needs.{needs}
 use Rattle.rtps_reader_proxy.proofs.proxy.ReaderProxy.needs_room.Statement.{statement}
 use Rattle.rtps_reader_proxy.proofs.proxy.ReaderProxy.needs_room.Tie as tie
-use Rattle.rtps_reader_proxy.proofs.proxy.ReaderProxy.needs_room.Reads as reads
-use Rattle.rtps_reader_proxy.proofs.proxy.ReaderProxy.needs_room.Lts as lts
-use Rattle.numbers.proofs.sequence_number.SequenceNumber.rank.Reads as rank-reads
-use Rattle.rising.proofs.room.holds.Reads as holds-reads
 
 rank-requires : tie.Need-rank-requires
 rank-requires c κs = search needs

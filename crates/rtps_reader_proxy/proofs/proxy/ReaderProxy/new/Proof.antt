@@ -13,10 +13,6 @@ use Rattle.rtps_reader_proxy.proofs.UnsentCalls.{new-refused, new-done,
 use borrow.Author.Needs.{needs}
 use Rattle.rtps_reader_proxy.proofs.proxy.ReaderProxy.new.Statement.{statement}
 use Rattle.rtps_reader_proxy.proofs.proxy.ReaderProxy.new.Tie as tie
-use Rattle.rtps_reader_proxy.proofs.proxy.ReaderProxy.new.Reads as reads
-use Rattle.rtps_reader_proxy.proofs.proxy.ReaderProxy.new.Lts as lts
-use Rattle.numbers.proofs.answer.Answer.of.Reads as of-reads
-use Rattle.numbers.proofs.answer.Rows.none.Reads as none-reads
 
 none-requires : tie.Need-none-requires
 none-requires c κs = search needs

@@ -15,13 +15,6 @@ use Rattle.rtps_reader_proxy.proofs.proxy.ReaderProxy.notify_new_cache_
   statement,
 }
 use Rattle.rtps_reader_proxy.proofs.proxy.ReaderProxy.notify_new_cache_change.Tie as tie
-use Rattle.rtps_reader_proxy.proofs.proxy.ReaderProxy.notify_new_cache_change.Reads as reads
-use Rattle.rtps_reader_proxy.proofs.proxy.ReaderProxy.notify_new_cache_change.Lts as lts
-use Rattle.numbers.proofs.sequence_number.SequenceNumber.is_sample.Reads as is-sample-reads
-use Rattle.numbers.proofs.sequence_number.SequenceNumber.rank.Reads as rank-reads
-use Rattle.rising.proofs.room.insert_newest.Reads as insert-newest-reads
-use Rattle.rtps_reader_proxy.proofs.proxy.ReaderProxy.check_unsent.Reads as check-unsent-reads
-use Rattle.rtps_reader_proxy.proofs.proxy.ReaderProxy.with_unsent.Reads as with-unsent-reads
 
 is-sample-requires : tie.Need-is-sample-requires
 is-sample-requires c κs = search needs

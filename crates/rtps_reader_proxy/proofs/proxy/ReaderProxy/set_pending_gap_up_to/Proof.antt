@@ -20,15 +20,6 @@ use Rattle.rtps_reader_proxy.proofs.proxy.ReaderProxy.set_pending_gap_u
   statement,
 }
 use Rattle.rtps_reader_proxy.proofs.proxy.ReaderProxy.set_pending_gap_up_to.Tie as tie
-use Rattle.rtps_reader_proxy.proofs.proxy.ReaderProxy.set_pending_gap_up_to.Reads as reads
-use Rattle.rtps_reader_proxy.proofs.proxy.ReaderProxy.set_pending_gap_up_to.Lts as lts
-use Rattle.numbers.proofs.sequence_number.SequenceNumber.is_negative.Reads as is-negative-reads
-use Rattle.numbers.proofs.sequence_number.SequenceNumber.rank.Reads as rank-reads
-use Rattle.rising.proofs.room.keep_from.Reads as keep-from-reads
-use Rattle.rtps_reader_proxy.proofs.gaps.is_beyond.Reads as is-beyond-reads
-use Rattle.rtps_reader_proxy.proofs.gaps.larger.Reads as larger-reads
-use Rattle.rtps_reader_proxy.proofs.proxy.ReaderProxy.check_gaps.Reads as check-gaps-reads
-use Rattle.rtps_reader_proxy.proofs.proxy.ReaderProxy.with_gaps.Reads as with-gaps-reads
 
 is-negative-requires : tie.Need-is-negative-requires
 is-negative-requires c κs = search needs

@@ -13,13 +13,6 @@ use Rattle.rtps_reader_proxy.proofs.UnsentCalls.{new-refused, new-done,
 use borrow.Author.Needs.{needs}
 use Rattle.rtps_reader_proxy.proofs.proxy.ReaderProxy.take_unsent.Statement.{statement}
 use Rattle.rtps_reader_proxy.proofs.proxy.ReaderProxy.take_unsent.Tie as tie
-use Rattle.rtps_reader_proxy.proofs.proxy.ReaderProxy.take_unsent.Reads as reads
-use Rattle.rtps_reader_proxy.proofs.proxy.ReaderProxy.take_unsent.Lts as lts
-use Rattle.rising.proofs.room.cut.Reads as cut-reads
-use Rattle.rising.proofs.run.copy.Reads as copy-reads
-use Rattle.rising.proofs.run.smaller.Reads as smaller-reads
-use Rattle.rtps_reader_proxy.proofs.proxy.ReaderProxy.check_unsent.Reads as check-unsent-reads
-use Rattle.rtps_reader_proxy.proofs.proxy.ReaderProxy.with_unsent.Reads as with-unsent-reads
 
 check-unsent-requires : tie.Need-check-unsent-requires
 check-unsent-requires c κs = search needs

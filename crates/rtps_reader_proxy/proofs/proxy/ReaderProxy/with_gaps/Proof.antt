@@ -8,9 +8,6 @@ use lib.ListN.{length, take}
 use borrow.Author.Needs.{needs}
 use Rattle.rtps_reader_proxy.proofs.proxy.ReaderProxy.with_gaps.Statement.{statement}
 use Rattle.rtps_reader_proxy.proofs.proxy.ReaderProxy.with_gaps.Tie as tie
-use Rattle.rtps_reader_proxy.proofs.proxy.ReaderProxy.with_gaps.Reads as reads
-use Rattle.rtps_reader_proxy.proofs.proxy.ReaderProxy.with_gaps.Lts as lts
-use Rattle.numbers.proofs.sequence_number.SequenceNumber.from_rank.Reads as from-rank-reads
 
 from-rank-requires : tie.Need-from-rank-requires
 from-rank-requires c κs = search needs

@@ -1,0 +1,166 @@
+-- The acknowledgement: what stays, what joins, and the whole call. Assumes nothing.
+use Prim.Native.Nat.{ℕ, zero, suc, _+_, _-_, _≤_, _<_, min, max}
+use mathlib.Core.Path.{_≡_, refl, sym, ap, subst, _∙_}
+use mathlib.Core.Bool.{Bool, true, false, not, cond, _&&_, _||_, true≢false}
+use mathlib.Core.List.{List, [], _∷_, _++_}
+use native.Mathlib.Omega.{arith}
+use lib.Dec.{leb, ltb, eqb}
+use lib.ListN.{length, take, drop, length-take}
+use lib.Seq.{length-take-le}
+use borrow.Author.Tests.{lt-ltb, le-ltb, ltb-false, not-false, not-true}
+use Rattle.sets.specs.Sets.{From, only, between, union, smallest}
+use Rattle.sets.proofs.Bools.{and-left, and-right}
+use Rattle.sets.proofs.Has.{From-weak}
+use Rattle.numbers.specs.Number.{topNumber, rankOf, negative, inRange, numberAt}
+use Rattle.numbers.specs.Refusals.{answerOf, done, unless}
+use Rattle.numbers.specs.Promise.{Left1, Left2, Gives1, Gives2}
+use Rattle.numbers.specs.declared.answer.Answer.{Answer}
+use Rattle.numbers.specs.declared.sequence_number.SequenceNumber.{SequenceNumber}
+use Rattle.numbers.proofs.Refused.{clear, is-refused, is-done, gives2}
+use Rattle.numbers.proofs.Ranks.{in-range}
+use Rattle.number_sets.specs.declared.sequence_number_set.SequenceNumberSet.{SequenceNumberSet}
+use Rattle.number_sets.specs.Bits.{members}
+use Rattle.number_sets.specs.Calls.{sequenceSet}
+use Rattle.rising.specs.Runs.{runOk, roomOf, inRoom, fromOn, before}
+use Rattle.rising.proofs.Meaning.{RunIs, run-is, in-room, room-is, room-ok, room-take, room-length, from-only, rising-only}
+use Rattle.rising.proofs.Changes.{between-room, only-le}
+use Rattle.rtps_reader_proxy.specs.declared.proxy.ReaderProxy.{ReaderProxy}
+use Rattle.rtps_reader_proxy.specs.declared.acks.AckNacked.{AckNacked}
+use Rattle.rtps_reader_proxy.specs.Reader.{Reader, baseOf, isLate, isAhead, staying, wanted, ackedAfter, leftOut}
+use Rattle.rtps_reader_proxy.specs.Record.{headOk, unsentOk, gapsOk, gapFloor}
+use Rattle.rtps_reader_proxy.specs.Acks.{ackRows, ackNackedOf, ackLeaves, acked, byBoth, headAfter, runLeft, Stayable, Joinable, joining, Ackable}
+use Rattle.rtps_reader_proxy.proofs.UnsentCalls.{UnsentIs, unsent-is}
+use Rattle.rtps_reader_proxy.proofs.GapCalls.{GapsAre, gaps-are}
+
+-- what stays
+module _ (count : ℕ) (room : List ℕ) (last a base b : ℕ) (k : Stayable count room last) (eb : b ≡ max base 1) where
+  run : RunIs 0 count room
+  run = run-is 0 count room (k .run)
+
+  pub stay-late : b < a → Gives1 count room (runLeft (length (staying last base a (take count room))) (length room) (staying last base a (take count room)))
+  stay-late h =
+      let e : isLate a base ≡ true = lt-ltb (baseOf base) a (omega arith) in
+      rw e (record { result = sym (length-take-le count room (run .fits)); first = room-is 0 count room run })
+
+  pub stay-some : a ≤ b → (c n : ℕ) (v u : List ℕ) → Gives1 c v (inRoom (fromOn b) count room) → Gives1 n u (inRoom (before (last + 1)) c v)
+      → Gives1 n u (runLeft (length (staying last base a (take count room))) (length room) (staying last base a (take count room)))
+  stay-some h c n v u g j =
+      let e : isLate a base ≡ false = le-ltb (baseOf base) a (omega arith) in
+      let y = between-room 0 count room run b last c n v u g j in
+      let z : between b last (take count room) ≡ between (baseOf base) last (take count room) = ap (λ (x : ℕ). between x last (take count room)) eb in
+      rw e (record { result = y .0 ∙ ap length z; first = y .1 ∙ ap (roomOf (length room)) z })
+
+-- the room that is left passes the check again
+stayed-ok : (count last base a : ℕ) (room : List ℕ) → RunIs 0 count room → runOk 0 (length (staying last base a (take count room))) (roomOf (length room) (staying last base a (take count room))) ≡ true
+stayed-ok count last base a room r = go (isLate a base)
+  where
+    few : length (take count room) ≤ length room
+    few = omega (arith, length-take count room)
+
+    go : (t : Bool) → runOk 0 (length (cond t (take count room) (between (baseOf base) last (take count room)))) (roomOf (length room) (cond t (take count room) (between (baseOf base) last (take count room)))) ≡ true
+    go true = room-ok 0 (length room) (take count room) few (r .rises)
+    go false =
+        room-ok 0 (length room) (between (baseOf base) last (take count room)) (omega (arith, only-le (λ n. leb (baseOf base) n && leb n last) (take count room), few))
+        (rising-only 0 (λ n. leb (baseOf base) n && leb n last) (take count room) (r .rises))
+
+module _ (h : ReaderProxy) (unsent gaps : List ℕ) (set : SequenceNumberSet) (last : ℕ) (k : Ackable h unsent gaps set last) where
+  us : UnsentIs h unsent
+  us = unsent-is h unsent (k .unsent-ok)
+
+  gs : GapsAre h gaps
+  gs = gaps-are h gaps (k .gaps-ok)
+
+  abbrev A : ℕ
+  A = rankOf (h .«all_acked_before»)
+
+  abbrev B : ℕ
+  B = rankOf (set .base)
+
+  abbrev old : List ℕ
+  old = take (h .«unsent_count») unsent
+
+  abbrev held : List ℕ
+  held = take (h .«gap_count») gaps
+
+  pub stayable : Stayable (h .«unsent_count») unsent last
+  stayable = record { run = and-right (eqb (length unsent) (h .«unsent_cap»)) (runOk 0 (h .«unsent_count») unsent) (and-right (headOk h) (eqb (length unsent) (h .«unsent_cap») && runOk 0 (h .«unsent_count») unsent) (k .unsent-ok)); top = k .top }
+
+  module _ (a base low c : ℕ) (v : List ℕ) (ea : a ≡ rankOf (h .«all_acked_before»)) (eb : base ≡ rankOf (set .base)) (el : low ≡ max a (max base 1))
+      (s : Gives1 c v (runLeft (length (staying last base a (take (h .«unsent_count») unsent))) (length unsent) (staying last base a (take (h .«unsent_count») unsent)))) where
+    low-is : low ≡ ackedAfter A B
+    low-is = el ∙ ap (λ (x : ℕ). max x (max base 1)) ea ∙ ap (λ (x : ℕ). max A (max x 1)) eb
+
+    stays : staying last base a old ≡ staying last B A old
+    stays = ap (λ (x : ℕ). staying last base x old) ea ∙ ap (λ (x : ℕ). staying last x A old) eb
+
+    pub joinable : Joinable c v set low
+    joinable = record { run = rw (s .result, s .first) (stayed-ok (h .«unsent_count») last base a unsent (us .run)); bits = k .bits; low = omega arith; base = k .base }
+
+    run-kept : take c v ≡ staying last B A old
+    run-kept = rw (s .result, s .first) (room-take (length unsent) (staying last base a old)) ∙ stays
+
+    long-kept : length v ≡ h .«unsent_cap»
+    long-kept = ap length (s .first) ∙ room-length (length unsent) (staying last base a old) (few (isLate a base)) ∙ us .long
+      where
+        few : (t : Bool) → length (cond t old (between (baseOf base) last old)) ≤ length unsent
+        few true = omega (arith, length-take (h .«unsent_count») unsent)
+        few false = omega (arith, only-le (λ n. leb (baseOf base) n && leb n last) old, length-take (h .«unsent_count») unsent)
+
+    module _ (total left kept : ℕ) (u g : List ℕ) (n : SequenceNumber)
+        (t : Gives1 total u (runLeft (length (joining low last set (take c v))) (length v) (smallest (length v) (joining low last set (take c v)))))
+        (x : left ≡ total - h .«unsent_cap») (w : Gives1 kept g (inRoom (fromOn low) (h .«gap_count») gaps)) (en : n ≡ numberAt low) where
+      all-is : joining low last set (take c v) ≡ wanted last B (members (sequenceSet set)) A old
+      all-is = ap (λ (y : ℕ). joining y last set (take c v)) low-is ∙ ap (joining (ackedAfter A B) last set) run-kept
+
+      pub left-few : left ≤ total
+      left-few = omega arith
+
+      pub acknowledged-is : Gives2 (record { answer = done; «left_out» = left; proxy = record { «all_acked_before» = n; «unsent_cap» = h .«unsent_cap»; «unsent_count» = total - left; «gap_prefix_end» = h .«gap_prefix_end»; «gap_count» = kept; «frag_count» = h .«frag_count» } })
+          u g (ackLeaves set last h unsent gaps)
+      acknowledged-is =
+          let tl : total ≡ length (wanted last B (members (sequenceSet set)) A old) = t .result ∙ ap length all-is in
+          let lo : left ≡ leftOut last B (members (sequenceSet set)) (byBoth h unsent gaps) = x ∙ ap (λ (y : ℕ). y - h .«unsent_cap») tl in
+          let cu : total - left ≡ length (smallest (h .«unsent_cap») (wanted last B (members (sequenceSet set)) A old)) = omega (arith, length-take (h .«unsent_cap») (wanted last B (members (sequenceSet set)) A old)) in
+          let fr : From 1 held = From-weak 1 (suc (gapFloor h)) held (omega arith) (gs .run .rises .from) in
+          let y = in-room (gapFloor h) (h .«gap_count») gaps (fromOn low) (only (leb low) held) (gs .run) (from-only low 1 held fr) (omega (arith, only-le (leb low) held, length-take (h .«gap_count») gaps)) kept g w in
+          let gk : only (leb low) held ≡ only (leb (ackedAfter A B)) held = ap (λ (z : ℕ). only (leb z) held) low-is in
+          let ck : kept ≡ length (only (leb (ackedAfter A B)) held) = y .0 ∙ ap length gk in
+          let nk : n ≡ numberAt (ackedAfter A B) = en ∙ ap numberAt low-is in
+          record {
+            result = rw (cu, lo, ck, nk);
+            first = t .first ∙ ap (λ (z : ℕ). roomOf z (smallest z (joining low last set (take c v)))) long-kept ∙ ap (λ (z : List ℕ). roomOf (h .«unsent_cap») (smallest (h .«unsent_cap») z)) all-is;
+            second = y .1 ∙ ap (λ (z : ℕ). roomOf z (only (leb low) held)) (gs .long) ∙ ap (roomOf 256) gk;
+          }
+
+-- THE WHOLE CALL
+module _ (set : SequenceNumberSet) (last : SequenceNumber) (h : ReaderProxy) (unsent gaps : List ℕ) (a : Answer) (q : a ≡ answerOf (ackRows h unsent gaps set last)) where
+  abbrev not-acked : Answer → Left2 AckNacked (List ℕ) (List ℕ)
+  not-acked x = record { result = record { answer = x; «left_out» = 0; proxy = h }; first = unsent; second = gaps }
+
+  pub ack-refused : (a .number ≡ 0 → ⊥) → Gives2 (record { answer = a; «left_out» = 0; proxy = h }) unsent gaps (ackNackedOf set last h unsent gaps)
+  ack-refused z =
+      gives2 (record { answer = a; «left_out» = 0; proxy = h }) unsent gaps (not-acked a) (ackNackedOf set last h unsent gaps)
+      (is-refused (ackRows h unsent gaps set last) a q not-acked (ackLeaves set (rankOf last) h unsent gaps) z) refl refl refl
+
+  module _ (z : a .number ≡ 0) where
+    pub ackable : (end : ℕ) → end ≡ rankOf last → Ackable h unsent gaps set end
+    ackable end e =
+        let c = clear (ackRows h unsent gaps set last) a q z in
+        let both = not-false (unsentOk h unsent && gapsOk h gaps) (c .incoherent) in
+        let rg = or-none (negative (set .base)) (not (inRange last topNumber)) (c .range) in
+        record {
+          unsent-ok = and-left (unsentOk h unsent) (gapsOk h gaps) both;
+          gaps-ok = and-right (unsentOk h unsent) (gapsOk h gaps) both;
+          bits = ltb-false 256 (set .count) (c .bits);
+          base = rg .0;
+          top = omega (arith, in-range last topNumber (not-false (inRange last topNumber) (rg .1)) .1);
+          behind = ap (λ (x : ℕ). isAhead x (rankOf (set .base))) e ∙ c .ahead;
+        }
+      where
+        or-none : (x y : Bool) → (x || y) ≡ false → (x ≡ false) × (y ≡ false)
+        or-none true y e = (e, absurd (true≢false e))
+        or-none false y e = (refl, e)
+
+    pub ack-done : (end : ℕ) (r : AckNacked) (u g : List ℕ) → end ≡ rankOf last → Gives2 r u g (ackLeaves set end h unsent gaps) → Gives2 r u g (ackNackedOf set last h unsent gaps)
+    ack-done end r u g e p =
+        subst (Gives2 r u g) (ap (λ (x : ℕ). ackLeaves set x h unsent gaps) e ∙ is-done (ackRows h unsent gaps set last) a q not-acked (ackLeaves set (rankOf last) h unsent gaps) z) p

@@ -1,0 +1,55 @@
+-- `stay` meets its contract. Assumes nothing.
+use Prim.Native.Nat.{ℕ, _≤_, _<_, _+_, _-_, max}
+use mathlib.Core.Path.{_≡_, refl, sym, ap, _∙_}
+use mathlib.Core.List.{List, [], _∷_}
+use mathlib.Core.Bool.{Bool, not, false}
+use native.Mathlib.Omega.{arith}
+use lib.ListN.{length, take}
+use lib.ListN.{drop}
+use lib.Seq.{length-take-le, take-all}
+use Rattle.numbers.specs.Number.{rankOf}
+use Rattle.number_sets.specs.Bits.{members}
+use Rattle.number_sets.specs.Calls.{sequenceSet, cutSet, joinedSet}
+use Rattle.rtps_reader_proxy.proofs.Joins.{joins-long, p-le-q, q-le, count-fits, joined-members, more-fits, join-total, join-room}
+use Rattle.rtps_reader_proxy.proofs.AckCalls.{stay-late, stay-some, stayable, joinable, left-few, acknowledged-is, ack-refused, ackable, ack-done}
+use borrow.Author.Needs.{needs}
+use Rattle.rtps_reader_proxy.proofs.acks.stay.Statement.{statement}
+use Rattle.rtps_reader_proxy.proofs.acks.stay.Tie as tie
+use Rattle.rtps_reader_proxy.proofs.acks.stay.Reads as reads
+use Rattle.rtps_reader_proxy.proofs.acks.stay.Lts as lts
+use Rattle.rising.proofs.room.keep_before.Reads as keep-before-reads
+use Rattle.rising.proofs.room.keep_from.Reads as keep-from-reads
+use Rattle.rtps_reader_proxy.proofs.arith.larger.Reads as larger-reads
+
+larger-requires : tie.Need-larger-requires
+larger-requires c κs = search needs
+
+returns : tie.Need-returns
+returns c = stay-late (c .before .before .before .args .count) (c .before .before .before .args .unsent .now) (c .before .before .before .args .last) (c .before .before .before .args .a) (c .before .before .before .args .base) (c .before .larger .result) (c .before .before .before .pre) (c .before .larger .ensures) (c .if1 .taken)
+
+keep-from-requires : tie.Need-keep-from-requires
+keep-from-requires c κs = search needs
+
+add-keep-before : tie.Need-add-keep-before
+add-keep-before c = search needs
+
+keep-before-requires : tie.Need-keep-before-requires
+keep-before-requires c κs = search needs
+
+same-length : tie.Need-same-length
+same-length c = search needs
+
+returns-2 : tie.Need-returns-2
+returns-2 c = stay-some (c .before .before .before .before .before .before .before .before .before .before .before .args .count) (c .before .before .before .before .before .before .before .before .before .before .before .args .unsent .now) (c .before .before .before .before .before .before .before .before .before .before .before .args .last) (c .before .before .before .before .before .before .before .before .before .before .before .args .a) (c .before .before .before .before .before .before .before .before .before .before .before .args .base) (c .before .before .before .before .before .before .before .before .before .larger .result) (c .before .before .before .before .before .before .before .before .before .before .before .pre) (c .before .before .before .before .before .before .before .before .before .larger .ensures) (c .before .before .before .before .before .before .before .before .if1 .left) (c .before .before .before .before .before .before .keep-from .result) (c .before .before .keep-before .result) (c .before .before .before .before .before .before .keep-from .last .0) (c .before .before .keep-before .last .0) (c .before .before .before .before .before .before .keep-from .ensures) (c .before .before .keep-before .ensures)
+
+pub stay-spec : {M : Type 1} → statement M
+stay-spec =
+    tie.close
+    (tie.spec
+    larger-requires
+    returns
+    keep-from-requires
+    add-keep-before
+    keep-before-requires
+    same-length
+    returns-2)

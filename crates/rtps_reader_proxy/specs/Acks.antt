@@ -1,0 +1,99 @@
+-- What `handle_ack_nack` answers and leaves. It is lent the unsent room and the gap room. Assumes nothing.
+use Prim.Native.Nat.{ℕ, suc, _-_, _≤_, max}
+use mathlib.Core.Path.{_≡_}
+use mathlib.Core.Bool.{Bool, true, false, not, cond, _&&_, _||_}
+use mathlib.Core.List.{List, [], _∷_}
+use lib.Dec.{ltb}
+use lib.ListN.{length, take}
+use Rattle.sets.specs.Sets.{union, between, smallest}
+use Rattle.numbers.specs.Number.{topNumber, rankOf, inRange, negative, numberAt}
+use Rattle.numbers.specs.Refusals.{row, rowsOf, done, unless}
+use Rattle.numbers.specs.Promise.{Left1, Left2}
+use Rattle.numbers.specs.declared.answer.Answer.{Answer}
+use Rattle.numbers.specs.declared.answer.Rows.{Rows}
+use Rattle.numbers.specs.declared.sequence_number.SequenceNumber.{SequenceNumber}
+use Rattle.number_sets.specs.declared.sequence_number_set.SequenceNumberSet.{SequenceNumberSet}
+use Rattle.number_sets.specs.Bits.{members}
+use Rattle.number_sets.specs.Calls.{sequenceSet}
+use Rattle.rising.specs.Runs.{runOk, roomOf}
+use Rattle.rtps_reader_proxy.specs.declared.proxy.ReaderProxy.{ReaderProxy}
+use Rattle.rtps_reader_proxy.specs.declared.acks.AckNacked.{AckNacked}
+use Rattle.rtps_reader_proxy.specs.Reader.{Reader, isAhead, acknowledge, leftOut, staying, wanted, ackedAfter, baseOf}
+use Rattle.rtps_reader_proxy.specs.Record.{unsentOk, gapsOk, seen, unsentRoom, gapRoom}
+
+-- "A negative base is refused with 2"; `last` is "0 to 2^63−2"; "b > last+1: answer 12"
+abbrev pub ackRows : ReaderProxy → List ℕ → List ℕ → SequenceNumberSet → SequenceNumber → Rows
+ackRows h unsent gaps set last =
+    rowsOf
+    (row 1 (not (unsentOk h unsent && gapsOk h gaps))
+    ∷ row 3 (ltb 256 (set .count))
+    ∷ row 2 (negative (set .base) || not (inRange last topNumber))
+    ∷ row 12 (isAhead (rankOf last) (rankOf (set .base)))
+    ∷ [])
+
+-- the head of a reader whose fragments aren't touched
+abbrev pub headAfter : Reader → ReaderProxy → ReaderProxy
+headAfter r h =
+    record {
+      «all_acked_before» = numberAt (r .acked);
+      «unsent_cap» = h .«unsent_cap»;
+      «unsent_count» = length (r .unsent);
+      «gap_prefix_end» = h .«gap_prefix_end»;
+      «gap_count» = length (r .gaps);
+      «frag_count» = h .«frag_count»;
+    }
+
+-- the reader, as far as the head and the two rooms show it
+abbrev pub byBoth : ReaderProxy → List ℕ → List ℕ → Reader
+byBoth h unsent gaps = seen h unsent gaps []
+
+-- what an acknowledgement that isn't refused leaves
+abbrev pub acked : SequenceNumberSet → ℕ → ReaderProxy → List ℕ → List ℕ → Reader
+acked set last h unsent gaps = acknowledge last (rankOf (set .base)) (members (sequenceSet set)) (byBoth h unsent gaps)
+
+abbrev pub ackLeaves : SequenceNumberSet → ℕ → ReaderProxy → List ℕ → List ℕ → Left2 AckNacked (List ℕ) (List ℕ)
+ackLeaves set last h unsent gaps =
+    record {
+      result = record {
+        answer = done;
+        «left_out» = leftOut last (rankOf (set .base)) (members (sequenceSet set)) (byBoth h unsent gaps);
+        proxy = headAfter (acked set last h unsent gaps) h;
+      };
+      first = unsentRoom (acked set last h unsent gaps);
+      second = gapRoom (acked set last h unsent gaps);
+    }
+
+abbrev pub ackNackedOf : SequenceNumberSet → SequenceNumber → ReaderProxy → List ℕ → List ℕ → Left2 AckNacked (List ℕ) (List ℕ)
+ackNackedOf set last h unsent gaps =
+    unless (ackRows h unsent gaps set last)
+    (λ a. record { result = record { answer = a; «left_out» = 0; proxy = h }; first = unsent; second = gaps })
+    (ackLeaves set (rankOf last) h unsent gaps)
+
+-- WITHIN: what the functions behind the check ask and leave
+
+-- a run l at the start of a room of m numbers
+abbrev pub runLeft : ℕ → ℕ → List ℕ → Left1 ℕ (List ℕ)
+runLeft n m l = record { result = n; first = roomOf m l }
+
+pub record Stayable (count : ℕ) (room : List ℕ) (last : ℕ) : Type 0 where
+  pub run : runOk 0 count room ≡ true
+  pub top : last ≤ topNumber
+
+-- members from lo through hi of a set join a run
+pub record Joinable (count : ℕ) (room : List ℕ) (set : SequenceNumberSet) (lo : ℕ) : Type 0 where
+  pub run : runOk 0 count room ≡ true
+  pub bits : set .count ≤ 256
+  pub low : 1 ≤ lo
+  pub base : negative (set .base) ≡ false
+
+abbrev pub joining : ℕ → ℕ → SequenceNumberSet → List ℕ → List ℕ
+joining lo hi set l = union (between lo hi (members (sequenceSet set))) l
+
+-- an acknowledgement that isn't refused
+pub record Ackable (h : ReaderProxy) (unsent gaps : List ℕ) (set : SequenceNumberSet) (last : ℕ) : Type 0 where
+  pub unsent-ok : unsentOk h unsent ≡ true
+  pub gaps-ok : gapsOk h gaps ≡ true
+  pub bits : set .count ≤ 256
+  pub base : negative (set .base) ≡ false
+  pub top : last ≤ topNumber
+  pub behind : isAhead last (rankOf (set .base)) ≡ false

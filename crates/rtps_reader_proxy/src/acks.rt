@@ -1,0 +1,115 @@
+// An ACKNACK: which numbers the reader has, and which it asks for.
+ghost use mathlib.Core.Path.{_≡_};
+ghost use lib.ListN.{length, take};
+ghost use Rattle.sets.specs.Sets.{smallest};
+ghost use Rattle.numbers.specs.Promise.{Gives1, Gives2};
+ghost use Rattle.rtps_reader_proxy.specs.Reader.{staying};
+ghost use Rattle.rtps_reader_proxy.specs.Acks.{ackNackedOf, ackLeaves, Ackable, runLeft, Stayable, Joinable, joining};
+use crate::arith;
+use crate::proxy::ReaderProxy;
+use number_sets::SequenceNumberSet;
+use numbers::Answer;
+use numbers::Rows;
+use numbers::SequenceNumber;
+use rising::room;
+use rising::run;
+
+#[repr(C)]
+pub struct AckNacked {
+    pub answer: Answer,
+    pub left_out: usize,
+    pub proxy: ReaderProxy,
+}
+
+// The unsent numbers that an acknowledgement leaves: all if it is late, else those from b through last.
+fn stay(unsent: &mut [u64], count: usize, a: u64, base: u64, last: u64) -> usize
+    requires { ⌜ Stayable count (now unsent) last ⌝ }
+    ensures { λ r. ⌜ Gives1 r (now (unsent .exit)) (runLeft (length (staying last base a (take count (now (unsent .entry))))) (length (now (unsent .entry))) (staying last base a (take count (now (unsent .entry))))) ⌝ }
+{
+    let b = arith::larger(base, 1);
+    if b < a {
+        return count;
+    }
+    let some = room::keep_from(unsent, count, b);
+    room::keep_before(unsent, some, last + 1)
+}
+
+// The members of a set from lo through hi join a run: those of the run that lie in the set's 256 bits join the set, and its members then take their place
+// in the run. The smallest stay, as many as the room holds; how many there were is returned.
+fn join(unsent: &mut [u64], count: usize, set: SequenceNumberSet, lo: u64, hi: u64) -> usize
+    requires { ⌜ Joinable count (now unsent) set lo ⌝ }
+    ensures { λ r. ⌜ Gives1 r (now (unsent .exit)) (runLeft (length (joining lo hi set (take count (now (unsent .entry))))) (length (now (unsent .entry))) (smallest (length (now (unsent .entry))) (joining lo hi set (take count (now (unsent .entry)))))) ⌝ }
+{
+    let first = set.base.rank();
+    let p = run::place(&unsent[..count], first);
+    let q = run::place(&unsent[..count], first + 256);
+    let all = set.cut(lo, hi).joined(&unsent[p..q]);
+    let more = all.size() - (q - p);
+    room::open(unsent, count, q, more);
+    all.list_members(&mut unsent[p..]);
+    count + more
+}
+
+impl ReaderProxy {
+    // An acknowledgement that is not refused.
+    fn acknowledged(
+        self,
+        unsent: &mut [u64],
+        gaps: &mut [u64],
+        set: SequenceNumberSet,
+        last: u64,
+    ) -> AckNacked
+        requires { ⌜ Ackable self (now unsent) (now gaps) set last ⌝ }
+        ensures { λ r. ⌜ Gives2 r (now (unsent .exit)) (now (gaps .exit)) (ackLeaves set last self (now (unsent .entry)) (now (gaps .entry))) ⌝ }
+    {
+        let a = self.all_acked_before.rank();
+        let base = set.base.rank();
+        let low = arith::larger(a, arith::larger(base, 1));
+        let old = stay(unsent, self.unsent_count, a, base, last);
+        let total = join(unsent, old, set, low, last);
+        let left_out = arith::excess(total, self.unsent_cap);
+        let kept = room::keep_from(gaps, self.gap_count, low);
+        let mut proxy = self;
+        proxy.all_acked_before = SequenceNumber::from_rank(low);
+        proxy.unsent_count = total - left_out;
+        proxy.gap_count = kept;
+        AckNacked {
+            answer: Answer {
+                number: Answer::DONE,
+            },
+            left_out,
+            proxy,
+        }
+    }
+
+    // An ACKNACK is taken, where `last` is the last number written.
+    pub fn handle_ack_nack(
+        self,
+        unsent: &mut [u64],
+        gaps: &mut [u64],
+        set: SequenceNumberSet,
+        last: SequenceNumber,
+    ) -> AckNacked
+        ensures { λ r. ⌜ Gives2 r (now (unsent .exit)) (now (gaps .exit)) (ackNackedOf set last self (now (unsent .entry)) (now (gaps .entry))) ⌝ }
+    {
+        let base = set.base;
+        let bits = set.count;
+        let good = self.unsent_ok(unsent) & self.gaps_ok(gaps);
+        let within = last.within(9223372036854775806);
+        let end = last.rank();
+        let mut rows = Rows::none();
+        rows.incoherent = !good;
+        rows.bits = 256 < bits;
+        rows.range = base.is_negative() | !within;
+        rows.ahead = end + 1 < arith::larger(base.rank(), 1);
+        let answer = Answer::of(rows);
+        if answer.number != 0 {
+            return AckNacked {
+                answer,
+                left_out: 0,
+                proxy: self,
+            };
+        }
+        self.acknowledged(unsent, gaps, set, end)
+    }
+}
