@@ -1,0 +1,10 @@
+-- The theorems of `other_end`.
+pub mod Gaps
+pub mod Found
+pub mod Heads
+pub mod Records
+pub mod Entries
+pub mod Calls
+pub mod Flows
+pub mod Fine
+pub mod Sound
