@@ -8,3 +8,4 @@ pub mod Calls
 pub mod Flows
 pub mod Fine
 pub mod Sound
+pub mod Round
