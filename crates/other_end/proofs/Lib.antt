@@ -9,3 +9,5 @@ pub mod Flows
 pub mod Fine
 pub mod Sound
 pub mod Round
+pub mod Rounds
+pub mod Demand3

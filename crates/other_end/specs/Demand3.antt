@@ -70,9 +70,11 @@ pub record Demand3 : Type 0 where
   pub one-by-one : (s : State) (i : ℕ) (l : Line) → Present s i l → Round i s (cleanRound i s)
   -- 4. BEYOND THE DEMAND: any line, a late one too, is credited only with what it received or was told as a gap
   pub told : (s : State) (i : ℕ) (l : Line) → Present s i l → (n : ℕ) → 1 ≤ n → n < l .server .acked → HasSettled l n
-  -- a line that is n behind is level after at most n / min(256, M) clean rounds, rounded up, whatever else but a write happens between them
+  -- a line that is n behind is level after at most n / min(256, M) clean rounds, rounded up, whatever else but a write happens before and between them;
+  -- and after every one of them both ends hold the same next number
   pub level : (s s′ : State) (i r : ℕ) (l : Line) → Present s i l → Rounds i r s s′
-      → (l′ : Line) × Present s′ i l′ × (s′ .flow .last ≡ s .flow .last) × (1 ≤ r → l′ .server .acked ≡ base (l′ .model))
+      → (l′ : Line) × Present s′ i l′ × (s′ .flow .last ≡ s .flow .last)
       × ((n : ℕ) → base (l .model) + n ≡ suc (s .flow .last) → rounds n (min 256 (l .server .cap)) ≤ r → base (l′ .model) ≡ suc (s .flow .last))
+      × (1 ≤ r → (l′ .server .acked ≡ base (l′ .model)) × (base (l′ .model) ≡ suc (s .flow .last) → l′ .server .unsent ≡ []))
   -- no call of the system is refused with 1
   pub coherent : (s : State) → Reached s → Coherent s
