@@ -161,4 +161,3 @@ module _ (last : ℕ) (r : Reader) (h : ReaderFits last r) where
   fits-call (sentFrag n f) e = let s = entries-sent n f 1 (r .frags) (h .frags) in fits-frags (sent n f (r .frags)) (s .0) (omega (arith, s .1, h .frags-few))
   fits-call (markSent n) e = fits-only last r h (λ k. not (eqb n k))
   fits-call (removeBefore n) e = fits-only last r h (leb n)
-

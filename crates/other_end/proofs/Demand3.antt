@@ -47,10 +47,13 @@ module _ (s : State) (i : ℕ) (l : Line) (p : Present s i l) where
       × ((n : ℕ) → base (l .model) + n ≡ suc (s .flow .last) → rounds n (min 256 (l .server .cap)) ≤ r → base (l′ .model) ≡ suc (s .flow .last))
       × (1 ≤ r → (l′ .server .acked ≡ base (l′ .model)) × (base (l′ .model) ≡ suc (s .flow .last) → l′ .server .unsent ≡ []))
   level s′ r d =
-      let v = levelled i r l s s′ (p .reached) (sound s (p .reached)) (p .anew) (p .there) d in
-      (v .line, record { reached = v .reached; there = v .found; anew = v .anew ∙ p .anew }, v .last,
-      λ n e q. let z = v .on (suc (s .flow .last)) (omega arith) (enough (base (l .model)) n (min 256 (l .server .cap)) r (suc (s .flow .last)) (omega (arith, fine .fits .cap-low)) e q) in omega (arith, z, v .within),
-      λ q. v .agrees (λ e. absurd (omega arith)))
+      let v = levelled i r l s s′ (p .reached) (sound s (p .reached)) (p .anew) (p .there) d in (
+        v .line,
+        record { reached = v .reached; there = v .found; anew = v .anew ∙ p .anew },
+        v .last,
+        λ n e q. let z = v .on (suc (s .flow .last)) (omega arith) (enough (base (l .model)) n (min 256 (l .server .cap)) r (suc (s .flow .last)) (omega (arith, fine .fits .cap-low)) e q) in omega (arith, z, v .within),
+        λ q. v .agrees (λ e. absurd (omega arith)),
+      )
 
   round : (s′ : State) → Round i s s′ → (l′ : Line) × Present s′ i l′ × (s′ .flow .last ≡ s .flow .last) × (l′ .server .cap ≡ l .server .cap) × Moved (s .flow .last) l l′
   round s′ d =

@@ -106,10 +106,15 @@ entries-sent n f b (e ∷ es) h = same (eqb (e .sample) n) refl (entries-sent n 
   where
     left : (t : Bool) → isEmpty (without f (e .frags)) ≡ t → e .sample ≡ n → Entries b (cond t es (entry n (without f (e .frags)) ∷ es)) × (length (cond t es (entry n (without f (e .frags)) ∷ es)) ≤ suc (length es))
     left true w q = (entries-weak b (suc (e .sample)) es (omega (arith, h .0)) (h .3), omega arith)
-    left false w q =
-        ((omega (arith, h .0, q), omega (arith, h .1, q),
+    left false w q = (
+      (
+        omega (arith, h .0, q),
+        omega (arith, h .1, q),
         record { some = full (without f (e .frags)) w; rise = From-only 1 (λ k. not (eqb f k)) (e .frags) (h .2 .rise); high = λ k v. h .2 .high k (in-only (λ k. not (eqb f k)) (e .frags) k v .1) },
-        subst (λ (k : ℕ). Entries (suc k) es) q (h .3)), omega arith)
+        subst (λ (k : ℕ). Entries (suc k) es) q (h .3),
+      ),
+      omega arith,
+    )
 
     same : (t : Bool) → eqb (e .sample) n ≡ t → Entries (suc (e .sample)) (sent n f es) × (length (sent n f es) ≤ length es)
         → Entries b (cond t (keep (entry n (without f (e .frags))) es) (e ∷ sent n f es)) × (length (cond t (keep (entry n (without f (e .frags))) es) (e ∷ sent n f es)) ≤ suc (length es))

@@ -75,13 +75,15 @@ set-own k x (y ∷ ys) h w = go (eqb (y .id) k) refl (sym (there-is k y ys) ∙ 
     go : (t : Bool) → eqb (y .id) k ≡ t → (t || isThere k ys) ≡ true
         → (isThere k ys ≡ true → ((x .id ≡ k) ⊎ (isThere (x .id) ys ≡ false)) → (isThere (x .id) (set ys (placeOf k ys) x) ≡ true) × (headAt (x .id) (set ys (placeOf k ys) x) ≡ x))
         → (isThere (x .id) (set (y ∷ ys) (cond t 0 (suc (placeOf k ys))) x) ≡ true) × (headAt (x .id) (set (y ∷ ys) (cond t 0 (suc (placeOf k ys))) x) ≡ x)
-    go true e g r =
-        (there-is (x .id) x ys ∙ ap (λ (t : Bool). t || isThere (x .id) ys) own,
-        ap (λ (t : Bool). getD (x ∷ ys) (cond t 0 (suc (placeOf (x .id) ys))) free) own)
+    go true e g r = (
+      there-is (x .id) x ys ∙ ap (λ (t : Bool). t || isThere (x .id) ys) own,
+      ap (λ (t : Bool). getD (x ∷ ys) (cond t 0 (suc (placeOf (x .id) ys))) free) own,
+    )
     go false e g r =
-        let o = r g (rest w) in
-        (there-is (x .id) y (set ys (placeOf k ys) x) ∙ or-right (eqb (y .id) (x .id)) (isThere (x .id) (set ys (placeOf k ys) x)) (o .0),
-        ap (λ (t : Bool). getD (y ∷ set ys (placeOf k ys) x) (cond t 0 (suc (placeOf (x .id) (set ys (placeOf k ys) x)))) free) (off e w) ∙ o .1)
+        let o = r g (rest w) in (
+          there-is (x .id) y (set ys (placeOf k ys) x) ∙ or-right (eqb (y .id) (x .id)) (isThere (x .id) (set ys (placeOf k ys) x)) (o .0),
+          ap (λ (t : Bool). getD (y ∷ set ys (placeOf k ys) x) (cond t 0 (suc (placeOf (x .id) (set ys (placeOf k ys) x)))) free) (off e w) ∙ o .1,
+        )
 
 -- COHERENCE
 

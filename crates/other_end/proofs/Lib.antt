@@ -11,3 +11,4 @@ pub mod Sound
 pub mod Round
 pub mod Rounds
 pub mod Demand3
+pub mod Needed
