@@ -11,7 +11,7 @@ use Rattle.other_end.specs.Model.{base}
 use Rattle.other_end.specs.System.{Line, State, find, start}
 use Rattle.other_end.specs.Rounds.{Round, Rounds, cleanRound}
 use Rattle.other_end.specs.Coherent.{Coherent}
-use Rattle.other_end.specs.Demand3.{Reached, Present, Kept, HasData, HasSettled, Moved, rounds, Demand3}
+use Rattle.other_end.specs.Demand3.{Reached, Present, Kept, HasData, HasSettled, Moved, roundsFor, Demand3}
 use Rattle.other_end.proofs.Gaps.{gap-all}
 use Rattle.other_end.proofs.Heads.{frontier-low}
 use Rattle.other_end.proofs.Records.{fits-more}
@@ -44,7 +44,7 @@ module _ (s : State) (i : ℕ) (l : Line) (p : Present s i l) where
 
   level : (s′ : State) (r : ℕ) → Rounds i r s s′
       → (l′ : Line) × Present s′ i l′ × (s′ .flow .last ≡ s .flow .last)
-      × ((n : ℕ) → base (l .model) + n ≡ suc (s .flow .last) → rounds n (min 256 (l .server .cap)) ≤ r → base (l′ .model) ≡ suc (s .flow .last))
+      × ((n : ℕ) → base (l .model) + n ≡ suc (s .flow .last) → roundsFor n (min 256 (l .server .cap)) ≤ r → base (l′ .model) ≡ suc (s .flow .last))
       × (1 ≤ r → (l′ .server .acked ≡ base (l′ .model)) × (base (l′ .model) ≡ suc (s .flow .last) → l′ .server .unsent ≡ []))
   level s′ r d =
       let v = levelled i r l s s′ (p .reached) (sound s (p .reached)) (p .anew) (p .there) d in (

@@ -20,7 +20,7 @@ use Rattle.other_end.specs.Model.{Model, gotData, gotGap, gotBeat, base,
 use Rattle.other_end.specs.Calls.{Call, result, callRows}
 use Rattle.other_end.specs.System.{Line, Body, sample, gap, beat, ack, Msg, State, Event, match, depart, write, sentTo, evictTo, call, heartbeat, send, reply, deliver, find, upd, nth, onServer, onModel, withLines, withFlow, post, tried, unknown, matchRows, newcomer, joined, left, ackRows, acknowledges, called, evicts, arrive, arrives, sendFirst, sendTo, beatTo, replyFrom, step, run}
 use Rattle.other_end.specs.Rounds.{opened, closed, Round, Quiet, Rounds}
-use Rattle.other_end.specs.Demand3.{Moved, Reached, rounds}
+use Rattle.other_end.specs.Demand3.{Moved, Reached, roundsFor}
 use Rattle.other_end.proofs.Found.{find-id, find-same, find-other, find-stays}
 use Rattle.other_end.proofs.Calls.{done-clear, both-false, call-cap}
 use Rattle.other_end.proofs.Fine.{Fine, Sane, base-last, settle-base}
@@ -210,7 +210,7 @@ levelled i (suc r) l s s′ re h a f d =
     one-more i r (s .flow .last) l (q .0) (m .0) s′ (q .3) top (m .3) (m .4) (subst (λ (n : ℕ). Moved n (q .0) (m .0)) (q .2) (m .5)) (subst (λ (n : ℕ). Levelled i r (m .0) n s′) e v)
 
 -- so many rounds are enough
-pub enough : (b n c r t : ℕ) → 1 ≤ c → b + n ≡ t → rounds n c ≤ r → t ≤ b + r * c
+pub enough : (b n c r t : ℕ) → 1 ≤ c → b + n ≡ t → roundsFor n c ≤ r → t ≤ b + r * c
 enough b n c r t p e q =
     let w : n + (c - 1) < suc r * c = div-lt-iff-lt-mul p .0 (omega (arith, q)) in
     let z : suc r * c ≡ r * c + c = suc-mul r c in

@@ -54,8 +54,8 @@ pub record Moved (last : ℕ) (l l′ : Line) : Type 0 where
   pub clear : base (l′ .model) ≡ suc last → l′ .server .unsent ≡ []
 
 -- n divided by c, rounded up
-abbrev pub rounds : ℕ → ℕ → ℕ
-rounds n c = (n + (c - 1)) / c
+abbrev pub roundsFor : ℕ → ℕ → ℕ
+roundsFor n c = (n + (c - 1)) / c
 
 pub record Demand3 : Type 0 where
   -- 1. CREDIT: the writer never credits a kept line with a number whose data it hasn't received; nor does the frontier, which `is_acked_through` goes by
@@ -74,7 +74,7 @@ pub record Demand3 : Type 0 where
   -- and after every one of them both ends hold the same next number
   pub level : (s s′ : State) (i r : ℕ) (l : Line) → Present s i l → Rounds i r s s′
       → (l′ : Line) × Present s′ i l′ × (s′ .flow .last ≡ s .flow .last)
-      × ((n : ℕ) → base (l .model) + n ≡ suc (s .flow .last) → rounds n (min 256 (l .server .cap)) ≤ r → base (l′ .model) ≡ suc (s .flow .last))
+      × ((n : ℕ) → base (l .model) + n ≡ suc (s .flow .last) → roundsFor n (min 256 (l .server .cap)) ≤ r → base (l′ .model) ≡ suc (s .flow .last))
       × (1 ≤ r → (l′ .server .acked ≡ base (l′ .model)) × (base (l′ .model) ≡ suc (s .flow .last) → l′ .server .unsent ≡ []))
   -- no call of the system is refused with 1
   pub coherent : (s : State) → Reached s → Coherent s
