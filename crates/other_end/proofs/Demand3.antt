@@ -15,7 +15,8 @@ use Rattle.other_end.specs.Demand3.{Reached, Present, Kept, HasData, Has
 use Rattle.other_end.proofs.Gaps.{gap-all}
 use Rattle.other_end.proofs.Heads.{frontier-low}
 use Rattle.other_end.proofs.Records.{fits-more}
-use Rattle.other_end.proofs.Flows.{flow-fits, no-trim}
+use Rattle.other_end.proofs.Flows.{no-trim}
+use Rattle.other_end.proofs.Tests.{passes-tests, flow-coherent}
 use Rattle.other_end.proofs.Fine.{Early, Fine, base-pos}
 use Rattle.other_end.proofs.Sound.{Sound, sound-run, sound-start}
 use Rattle.other_end.proofs.Round.{round-moves, one-round}
@@ -28,9 +29,9 @@ pub coherent : (s : State) → Reached s → Coherent s
 coherent s r =
     let h = sound s r in
     record {
-      flow = flow-fits (s .flow) (h .flow);
+      flow = flow-coherent (s .flow) (h .flow);
       list = h .list;
-      readers = λ i l e. fits-more (s .flow .last) topNumber (l .server) (h .flow .last) (h .lines i l e .fits);
+      readers = λ i l e. let f = fits-more (s .flow .last) topNumber (l .server) (h .flow .last) (h .lines i l e .fits) in (f, passes-tests (l .server) f);
       heads = λ i l e. (h .held i l e .there, h .held i l e .head);
       frontier = frontier-low (s .flow .last) (s .heads) (h .low);
     }

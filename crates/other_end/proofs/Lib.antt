@@ -6,6 +6,7 @@ pub mod Records
 pub mod Entries
 pub mod Calls
 pub mod Flows
+pub mod Tests
 pub mod Fine
 pub mod Sound
 pub mod Round

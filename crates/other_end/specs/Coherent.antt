@@ -9,8 +9,9 @@ use Rattle.sets.specs.Sets.{has, From}
 use Rattle.numbers.specs.Number.{topNumber, topFragment}
 use Rattle.requested_fragments.specs.Entries.{Entry}
 use Rattle.rtps_reader_proxy.specs.Reader.{Reader}
-use Rattle.reader_list.specs.Readers.{isThere, headAt, frontier, fits as listFits}
-use Rattle.writer_send_buffer.specs.Flow.{fits as flowFits}
+use Rattle.rtps_reader_proxy.specs.Record.{unsentOk, gapsOk, headOf as proxyOf, unsentRoom, gapRoom}
+use Rattle.reader_list.specs.Readers.{isThere, headAt, frontier, fits}
+use Rattle.writer_send_buffer.specs.Buffer.{form, isCoherent}
 use Rattle.other_end.specs.System.{Line, State, find, headOf}
 
 -- fragments: at least one, rising, 1 to 4,096
@@ -42,11 +43,16 @@ pub record ReaderFits (top : ℕ) (r : Reader) : Type 0 where
   pub frags-few : length (r .frags) ≤ 16
   pub frags : Entries 1 (r .frags)
 
--- the flow record, the reader list and every reader's record are coherent, the list's head of a reader agrees with its record, and the frontier can be
--- stored: so no call that the system makes is refused with 1, nor the storing of a frontier with 2
+-- THE CODE'S OWN TESTS, of the head and the rooms that stand for the record
+pub record PassesTests (r : Reader) : Type 0 where
+  pub unsent : unsentOk (proxyOf r) (unsentRoom r) ≡ true
+  pub gaps : gapsOk (proxyOf r) (gapRoom r) ≡ true
+
+-- every record of the state is coherent, the list's head of a reader agrees with its record, and the frontier can be stored: so no call that the system
+-- makes is refused with 1, nor the storing of a frontier with 2
 pub record Coherent (s : State) : Type 0 where
-  pub flow : flowFits (s .flow) ≡ true
-  pub list : listFits (s .heads) ≡ true
-  pub readers : (i : ℕ) (l : Line) → find i (s .lines) ≡ some l → ReaderFits topNumber (l .server)
+  pub flow : isCoherent (form (s .flow)) ≡ true
+  pub list : fits (s .heads) ≡ true
+  pub readers : (i : ℕ) (l : Line) → find i (s .lines) ≡ some l → ReaderFits topNumber (l .server) × PassesTests (l .server)
   pub heads : (i : ℕ) (l : Line) → find i (s .lines) ≡ some l → (isThere i (s .heads) ≡ true) × (headAt i (s .heads) ≡ headOf l)
   pub frontier : frontier (s .heads) ≤ suc (s .flow .last)
