@@ -1,10 +1,12 @@
 -- Demand 3 is proved. Assumes nothing.
 use Prim.Native.Nat.{ℕ, suc, _+_, _-_, _*_, _≤_, _<_, min, max}
 use mathlib.Core.Path.{_≡_, refl, sym, ap, subst, _∙_}
-use mathlib.Core.Bool.{Bool, true}
+use mathlib.Core.Bool.{Bool, true, not, _||_}
 use mathlib.Core.List.{List, []}
 use mathlib.Core.Option.{some}
+use lib.Dec.{ltb}
 use native.Mathlib.Omega.{arith}
+use borrow.Author.Tests.{ltb-true}
 use Rattle.sets.specs.Sets.{has}
 use Rattle.numbers.specs.Number.{topNumber}
 use Rattle.other_end.specs.Model.{base}
@@ -73,6 +75,10 @@ demand-3 =
     record {
       credit = λ s i l k n a q. below s i l k n a (omega arith);
       frontier = λ s i l k n a q. below s i l k n a (omega (arith, fine s i l (k .present) .front (k .reliable) .1));
+      through = λ s i l k t y n a q.
+          let f = fine s i l (k .present) .front (k .reliable) in
+          let w : t < s .flow .acked = ltb-true t (s .flow .acked) (sym (ap (λ (p : Bool). not p || ltb t (s .flow .acked)) (f .0)) ∙ y) in
+          below s i l k n a (omega (arith, f .1, w));
       evicted = λ s i l k n a q. below s i l k n a (omega (arith, kept s i l k .0));
       untrimmed = λ s i l k opted. no-trim (s .flow) opted (k .writer) (fine s i l (k .present) .front (k .reliable) .0);
       round = λ s s′ i l p d. round s i l p s′ d;

@@ -10,11 +10,11 @@ use native.Mathlib.Nat.{lt-irrefl, le-refl}
 use native.Mathlib.Omega.{arith}
 use borrow.Author.Tests.{ltb-true, ltb-false, eqb-true, eqb-false, ne-eqb}
 use Rattle.sets.specs.Sets.{has, From, those}
-use Rattle.sets.proofs.Bools.{clash, decide}
+use Rattle.sets.proofs.Bools.{and-left, and-right, clash, decide}
 use Rattle.sets.proofs.Has.{lt-of-le-of-ne, From-low}
-use Rattle.sets.proofs.Those.{has-those, those-same}
-use Rattle.number_sets.specs.Bits.{bitAt, members, wordsFor}
-use Rattle.number_sets.proofs.Eight.{bit-of}
+use Rattle.sets.proofs.Those.{has-those, has-those-is, From-those}
+use Rattle.number_sets.specs.Bits.{members}
+use Rattle.number_sets.proofs.Meaning.{made-is}
 use Rattle.other_end.specs.Model.{gapFrom, missing, Model, base, bits, asked, ackNack}
 
 pub gap-ge : (b : ℕ) (l : List ℕ) → b ≤ gapFrom b l
@@ -60,35 +60,11 @@ gap-mono b l m h g s = gap-past b (gapFrom b l) m g (λ n p q. s n (gap-all b l 
 pub has-missing : (k b : ℕ) (l : List ℕ) (n : ℕ) → b ≤ n → n < b + k → has l n ≡ false → has (missing k b l) n ≡ true
 has-missing k b l n p q e = has-those k b (λ m. not (has l m)) n p q (ap not e)
 
--- a number that is among those of a stretch passes the test
-pub those-pass : (k b : ℕ) (p : ℕ → Bool) (n : ℕ) → has (those k b p) n ≡ true → p n ≡ true
-those-pass zero b p n e = let z : _≡_ {A = ℕ} 0 1 = cc in absurd (omega arith)
-those-pass (suc k) b p n e = go (p b) refl (eqb b n) refl e (those-pass k (suc b) p n)
-  where
-    go : (t : Bool) → p b ≡ t → (u : Bool) → eqb b n ≡ u → has (cond t (b ∷ those k (suc b) p) (those k (suc b) p)) n ≡ true → (has (those k (suc b) p) n ≡ true → p n ≡ true) → p n ≡ true
-    go true f true g h r = sym (ap p (eqb-true b n g)) ∙ f
-    go true f false g h r = r (sym (ap (λ (t : Bool). t || has (those k (suc b) p) n) g) ∙ h)
-    go false f u g h r = r h
-
 -- THE ACKNACK: read back from its words, it asks for all that is missing, and for nothing else
 pub asks : (m : Model) → members (ackNack m) ≡ asked m
-asks m = those-same k b (λ n. bitAt (wordsFor b (asked m)) (n - b)) (λ n. not (has (m .settled) n)) each
+asks m = made-is (base m) (bits m) (asked m) (omega arith) (From-those (bits m) (base m) (λ n. not (has (m .settled) n))) top
   where
-    b : ℕ
-    b = base m
-
-    k : ℕ
-    k = bits m
-
-    each : (n : ℕ) → base m ≤ n → n < base m + bits m → bitAt (wordsFor (base m) (asked m)) (n - base m) ≡ not (has (m .settled) n)
-    each n l q =
-        let e : base m + (n - base m) ≡ n = omega arith in
-        bit-of (λ i. has (asked m) (base m + i)) (n - base m) (omega arith) ∙ ap (has (asked m)) e ∙ same (decide (not (has (m .settled) n)))
-      where
-        same : (not (has (m .settled) n) ≡ true) ⊎ (not (has (m .settled) n) ≡ false) → has (asked m) n ≡ not (has (m .settled) n)
-        same (inl w) = has-those (bits m) (base m) (λ x. not (has (m .settled) x)) n l q w ∙ sym w
-        same (inr w) = off (decide (has (asked m) n)) ∙ sym w
-          where
-            off : (has (asked m) n ≡ true) ⊎ (has (asked m) n ≡ false) → has (asked m) n ≡ false
-            off (inl v) = clash (not (has (m .settled) n)) (those-pass (bits m) (base m) (λ x. not (has (m .settled) x)) n v) w
-            off (inr v) = v
+    top : (n : ℕ) → has (asked m) n ≡ true → n < base m + bits m
+    top n e =
+        let w = sym (has-those-is (bits m) (base m) (λ x. not (has (m .settled) x)) n) ∙ e in
+        ltb-true n (base m + bits m) (and-right (leb (base m) n) (ltb n (base m + bits m)) (and-left (leb (base m) n && ltb n (base m + bits m)) (not (has (m .settled) n)) w))

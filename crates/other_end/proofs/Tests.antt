@@ -4,14 +4,14 @@ use mathlib.Core.Path.{_≡_, refl, sym, ap, subst, _∙_}
 use mathlib.Core.Bool.{Bool, true, false, not, cond, _&&_}
 use mathlib.Core.List.{List, []}
 use lib.Dec.{ltb, leb, eqb}
-use lib.IntN.{ℤ, pos}
 use lib.ListN.{length}
 use native.Mathlib.Omega.{arith}
 use borrow.Author.Tests.{lt-ltb, le-leb, eq-eqb}
 use Rattle.sets.specs.Sets.{has, From}
 use Rattle.sets.proofs.Bools.{and-both}
 use Rattle.sets.proofs.Has.{From-low, From-raise}
-use Rattle.numbers.specs.Number.{topNumber, natOf, below0, rankOf, negative, numberAt, inRange}
+use Rattle.numbers.specs.Number.{topNumber, rankOf, negative, numberAt, inRange}
+use Rattle.numbers.proofs.Ranks.{rank-back, in-range, range-of}
 use Rattle.rising.specs.Runs.{runOk, roomOf}
 use Rattle.rising.proofs.Meaning.{Rising, room-length, room-ok}
 use Rattle.rtps_reader_proxy.specs.Reader.{Reader}
@@ -21,30 +21,20 @@ use Rattle.writer_send_buffer.specs.Buffer.{view, form, isCoherent}
 use Rattle.other_end.specs.Coherent.{ReaderFits, PassesTests}
 use Rattle.other_end.proofs.Flows.{FlowOk, flow-fits}
 
--- a number below 2 ^ 63, as a signed number
-module _ (n : ℕ) (h : n < 9223372036854775808) where
-  small : ltb n 9223372036854775808 ≡ true
-  small = lt-ltb n 9223372036854775808 h
-
-  rank-at : rankOf (numberAt n) ≡ n
-  rank-at = ap (λ (t : Bool). natOf (cond t (pos n) (pos 0))) small
-
-  not-below : not (negative (numberAt n)) ≡ true
-  not-below = ap (λ (t : Bool). not (below0 (cond t (pos n) (pos 0)))) small
-
-  in-range : (top : ℕ) → n ≤ top → inRange (numberAt n) top ≡ true
-  in-range top q = and-both (not (negative (numberAt n))) (leb (rankOf (numberAt n)) top) not-below (ap (λ (k : ℕ). leb k top) rank-at ∙ le-leb n top q)
+-- a number below 2 ^ 63, as a signed number, is not below 0
+not-below : (n : ℕ) → n < 9223372036854775808 → not (negative (numberAt n)) ≡ true
+not-below n h = ap not (in-range (numberAt n) n (range-of n n h (omega arith)) .0)
 
 -- THE READER
 
 module _ (r : Reader) (h : ReaderFits topNumber r) where
   head-ok : headOk (headOf r) ≡ true
   head-ok =
-      and-both (inRange (numberAt (r .acked)) 9223372036854775807) _ (in-range (r .acked) (omega (arith, h .acked)) 9223372036854775807 (omega (arith, h .acked)))
+      and-both (inRange (numberAt (r .acked)) 9223372036854775807) _ (range-of (r .acked) 9223372036854775807 (omega arith) (omega (arith, h .acked)))
       (and-both (leb 1 (r .cap)) _ (le-leb 1 (r .cap) (h .cap-low))
       (and-both (leb (r .cap) 1024) _ (le-leb (r .cap) 1024 (h .cap-high))
       (and-both (leb (length (r .unsent)) (r .cap)) _ (le-leb (length (r .unsent)) (r .cap) (h .few))
-      (and-both (inRange (numberAt (r .prefix)) topNumber) _ (in-range (r .prefix) (omega (arith, h .prefix)) topNumber (h .prefix))
+      (and-both (inRange (numberAt (r .prefix)) topNumber) _ (range-of (r .prefix) topNumber (omega arith) (h .prefix))
       (and-both (leb (length (r .gaps)) 256) (leb (length (r .frags)) 16) (le-leb (length (r .gaps)) 256 (h .gaps-few)) (le-leb (length (r .frags)) 16 (h .frags-few)))))))
 
   unsent-ok : unsentOk (headOf r) (unsentRoom r) ≡ true
@@ -55,8 +45,8 @@ module _ (r : Reader) (h : ReaderFits topNumber r) where
 
   floor-is : gapFloor (headOf r) ≡ max (r .prefix) (r .acked - 1)
   floor-is =
-      ap (λ (k : ℕ). max k (rankOf (numberAt (r .acked)) - 1)) (rank-at (r .prefix) (omega (arith, h .prefix)))
-      ∙ ap (λ (k : ℕ). max (r .prefix) (k - 1)) (rank-at (r .acked) (omega (arith, h .acked)))
+      ap (λ (k : ℕ). max k (rankOf (numberAt (r .acked)) - 1)) (rank-back (r .prefix) (omega (arith, h .prefix)))
+      ∙ ap (λ (k : ℕ). max (r .prefix) (k - 1)) (rank-back (r .acked) (omega (arith, h .acked)))
 
   gaps-above : From (suc (max (r .prefix) (r .acked - 1))) (r .gaps)
   gaps-above =
@@ -83,10 +73,10 @@ flow-coherent f h =
     same : view (form f) ≡ f
     same = λ i.
         record {
-          last = rank-at (f .last) (omega (arith, h .last)) i;
-          first = rank-at (f .first) (omega (arith, h .first, h .last)) i;
-          sent = rank-at (f .sent) (omega (arith, h .sent, h .last)) i;
-          acked = rank-at (f .acked) (omega (arith, h .front, h .last)) i;
+          last = rank-back (f .last) (omega (arith, h .last)) i;
+          first = rank-back (f .first) (omega (arith, h .first, h .last)) i;
+          sent = rank-back (f .sent) (omega (arith, h .sent, h .last)) i;
+          acked = rank-back (f .acked) (omega (arith, h .front, h .last)) i;
           present = f .present;
           kind = f .kind;
           limits = f .limits;

@@ -8,7 +8,7 @@ use mathlib.Core.Option.{some}
 use Rattle.sets.specs.Sets.{has}
 use Rattle.writer_send_buffer.specs.declared.limits.Kind.{Kind}
 use Rattle.writer_send_buffer.specs.declared.limits.Limits.{Limits}
-use Rattle.writer_send_buffer.specs.Flow.{allowed, trims}
+use Rattle.writer_send_buffer.specs.Flow.{allowed, trims, ackedThrough}
 use Rattle.other_end.specs.Model.{base}
 use Rattle.other_end.specs.System.{Line, State, Event, find, run, start}
 use Rattle.other_end.specs.Rounds.{Round, Rounds, cleanRound}
@@ -58,9 +58,11 @@ abbrev pub roundsFor : ℕ → ℕ → ℕ
 roundsFor n c = (n + (c - 1)) / c
 
 pub record Demand3 : Type 0 where
-  -- 1. CREDIT: the writer never credits a kept line with a number whose data it hasn't received; nor does the frontier, which `is_acked_through` goes by
+  -- 1. CREDIT: the writer never credits a kept line with a number whose data it hasn't received; nor does the stored frontier; and where
+  -- `is_acked_through` says yes to t, it has the data of all through t
   pub credit : (s : State) (i : ℕ) (l : Line) → Kept s i l → (n : ℕ) → 1 ≤ n → n < l .server .acked → HasData l n
   pub frontier : (s : State) (i : ℕ) (l : Line) → Kept s i l → (n : ℕ) → 1 ≤ n → n < s .flow .acked → HasData l n
+  pub through : (s : State) (i : ℕ) (l : Line) → Kept s i l → (t : ℕ) → ackedThrough t (s .flow) ≡ true → (n : ℕ) → 1 ≤ n → n ≤ t → HasData l n
   -- 2. EVICTION: no number that is no longer retained is missing at a kept line, and while it is there no write trims
   pub evicted : (s : State) (i : ℕ) (l : Line) → Kept s i l → (n : ℕ) → 1 ≤ n → n < s .flow .first → HasData l n
   pub untrimmed : (s : State) (i : ℕ) (l : Line) → Kept s i l → (opted : Bool) → trims (s .flow) opted ≡ false
