@@ -96,8 +96,9 @@ module _ (f : Flow) (c : Bool) (net : List Msg) (l : Line) (h : Fine f c net l) 
 
   -- WHAT ARRIVES AT THE LINE
 
-  pub fine-data : (n : ℕ) → 1 ≤ n → n ≤ f .last → Fine f c net (onModel (gotData n) l)
-  fine-data n p q =
+  fine-settled : (n : ℕ) (samples : List ℕ) → 1 ≤ n → n ≤ f .last → (Trusted f c → Early l → insert n (l .model .settled) ≡ samples)
+      → Fine f c net (onModel (λ m. record { settled = insert n (m .settled); known = max n (m .known); samples = samples }) l)
+  fine-settled n samples p q same =
       record {
         rise = From-insert 1 n (l .model .settled) p (h .rise);
         top = settle-top n q;
@@ -106,23 +107,15 @@ module _ (f : Flow) (c : Bool) (net : List Msg) (l : Line) (h : Fine f c net l) 
         above = h .above;
         credit = λ a. omega (arith, h .credit a, settle-base n p);
         front = h .front;
-        kept = λ t k. (h .kept t k .0, ap (insert n) (h .kept t k .1));
-        mail = λ a k m e i. good-more f c (onModel (gotData n) l) (λ t. t) refl refl refl (settle-base n p) (m .body) (h .mail a k m e i);
+        kept = λ t k. (h .kept t k .0, same t k);
+        mail = λ a k m e i. good-more f c (onModel (λ m. record { settled = insert n (m .settled); known = max n (m .known); samples = samples }) l) (λ t. t) refl refl refl (settle-base n p) (m .body) (h .mail a k m e i);
       }
 
+  pub fine-data : (n : ℕ) → 1 ≤ n → n ≤ f .last → Fine f c net (onModel (gotData n) l)
+  fine-data n p q = fine-settled n (insert n (l .model .samples)) p q (λ t k. ap (insert n) (h .kept t k .1))
+
   pub fine-gap : (n : ℕ) → 1 ≤ n → n ≤ f .last → (Trusted f c → Early l → ⊥) → Fine f c net (onModel (gotGap n) l)
-  fine-gap n p q late =
-      record {
-        rise = From-insert 1 n (l .model .settled) p (h .rise);
-        top = settle-top n q;
-        known = omega (arith, h .known);
-        fits = h .fits;
-        above = h .above;
-        credit = λ a. omega (arith, h .credit a, settle-base n p);
-        front = h .front;
-        kept = λ t k. absurd (late t k);
-        mail = λ a k m e i. good-more f c (onModel (gotGap n) l) (λ t. t) refl refl refl (settle-base n p) (m .body) (h .mail a k m e i);
-      }
+  fine-gap n p q late = fine-settled n (l .model .samples) p q (λ t k. absurd (late t k))
 
   pub fine-beat : (n : ℕ) → n ≤ f .last → Fine f c net (onModel (gotBeat n) l)
   fine-beat n q =

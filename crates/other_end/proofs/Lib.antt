@@ -12,4 +12,5 @@ pub mod Sound
 pub mod Round
 pub mod Rounds
 pub mod Demand3
+pub mod Steps
 pub mod Needed

@@ -22,8 +22,8 @@ use Rattle.other_end.specs.Coherent.{ReaderFits, PassesTests}
 use Rattle.other_end.proofs.Flows.{FlowOk, flow-fits}
 
 -- a number below 2 ^ 63, as a signed number, is not below 0
-not-below : (n : ℕ) → n < 9223372036854775808 → not (negative (numberAt n)) ≡ true
-not-below n h = ap not (in-range (numberAt n) n (range-of n n h (omega arith)) .0)
+pub not-below : (n : ℕ) → n < 9223372036854775808 → negative (numberAt n) ≡ false
+not-below n h = in-range (numberAt n) n (range-of n n h (omega arith)) .0
 
 -- THE READER
 
@@ -64,20 +64,20 @@ module _ (r : Reader) (h : ReaderFits topNumber r) where
 
 -- THE FLOW RECORD
 
+pub view-form : (f : Flow) → FlowOk f → view (form f) ≡ f
+view-form f h = λ i.
+    record {
+      last = rank-back (f .last) (omega (arith, h .last)) i;
+      first = rank-back (f .first) (omega (arith, h .first, h .last)) i;
+      sent = rank-back (f .sent) (omega (arith, h .sent, h .last)) i;
+      acked = rank-back (f .acked) (omega (arith, h .front, h .last)) i;
+      present = f .present;
+      kind = f .kind;
+      limits = f .limits;
+    }
+
 pub flow-coherent : (f : Flow) → FlowOk f → isCoherent (form f) ≡ true
 flow-coherent f h =
-    and-both (not (negative (numberAt (f .last)))) _ (not-below (f .last) (omega (arith, h .last)))
-    (and-both (not (negative (numberAt (f .sent)))) (fits (view (form f))) (not-below (f .sent) (omega (arith, h .sent, h .last)))
-    (subst (λ (g : Flow). fits g ≡ true) (sym same) (flow-fits f h)))
-  where
-    same : view (form f) ≡ f
-    same = λ i.
-        record {
-          last = rank-back (f .last) (omega (arith, h .last)) i;
-          first = rank-back (f .first) (omega (arith, h .first, h .last)) i;
-          sent = rank-back (f .sent) (omega (arith, h .sent, h .last)) i;
-          acked = rank-back (f .acked) (omega (arith, h .front, h .last)) i;
-          present = f .present;
-          kind = f .kind;
-          limits = f .limits;
-        }
+    and-both (not (negative (numberAt (f .last)))) _ (ap not (not-below (f .last) (omega (arith, h .last))))
+    (and-both (not (negative (numberAt (f .sent)))) (fits (view (form f))) (ap not (not-below (f .sent) (omega (arith, h .sent, h .last))))
+    (subst (λ (g : Flow). fits g ≡ true) (sym (view-form f h)) (flow-fits f h)))
