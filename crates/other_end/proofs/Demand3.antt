@@ -1,7 +1,7 @@
 -- Demand 3 is proved. Assumes nothing.
-use Prim.Native.Nat.{ℕ, suc, _+_, _-_, _*_, _≤_, _<_, min, max}
+use Prim.Native.Nat.{ℕ, zero, suc, _+_, _-_, _*_, _≤_, _<_, min, max}
 use mathlib.Core.Path.{_≡_, refl, sym, ap, subst, _∙_}
-use mathlib.Core.Bool.{Bool, true, not, _||_}
+use mathlib.Core.Bool.{Bool, true, false, not, _||_}
 use mathlib.Core.List.{List, []}
 use mathlib.Core.Option.{some}
 use lib.Dec.{ltb}
@@ -11,10 +11,10 @@ use Rattle.sets.specs.Sets.{has}
 use Rattle.numbers.specs.Number.{topNumber}
 use Rattle.other_end.specs.Model.{base}
 use Rattle.other_end.specs.System.{Line, State, find, start}
-use Rattle.other_end.specs.Rounds.{Round, Rounds, cleanRound}
+use Rattle.other_end.specs.Rounds.{Round, Rounds, cleanRound, cleanRounds}
 use Rattle.other_end.specs.Coherent.{Coherent}
 use Rattle.other_end.specs.Demand3.{Reached, Present, Kept, HasData, HasSettled, Moved, roundsFor, Demand3}
-use Rattle.other_end.proofs.Gaps.{gap-all}
+use Rattle.other_end.proofs.Gaps.{gap-ge, gap-all, gap-not}
 use Rattle.other_end.proofs.Heads.{frontier-low}
 use Rattle.other_end.proofs.Records.{fits-more}
 use Rattle.other_end.proofs.Flows.{no-trim}
@@ -63,6 +63,19 @@ module _ (s : State) (i : ℕ) (l : Line) (p : Present s i l) where
       let m = round-moves i l s (sound s (p .reached)) (p .there) s′ (p .anew) d in
       (m .0, record { reached = reached-round i s s′ (p .reached) d; there = m .1; anew = m .4 ∙ p .anew }, m .2, m .3, m .5)
 
+always : (r : ℕ) (s : State) (i : ℕ) (l : Line) → Present s i l → Rounds i r s (cleanRounds i r s)
+always zero s i l p = refl
+always (suc r) s i l p =
+    let d = one-round i l s (sound s (p .reached)) (p .there) in
+    let m = round s i l p (cleanRound i s) d in
+    ([], tt, cleanRound i s, d, always r (cleanRound i s) i (m .0) (m .1))
+
+-- "Its base is the smallest positive number not settled"
+pub base-is : (s : State) (i : ℕ) (l : Line) → Present s i l → (1 ≤ base (l .model)) × (has (l .model .settled) (base (l .model)) ≡ false) × ((n : ℕ) → 1 ≤ n → n < base (l .model) → HasSettled l n)
+base-is s i l p =
+    let f = fine s i l p in
+    (gap-ge 1 (l .model .settled), gap-not 1 (l .model .settled) (f .rise), λ n a q. gap-all 1 (l .model .settled) n (f .rise) a q)
+
 module _ (s : State) (i : ℕ) (l : Line) (k : Kept s i l) where
   kept : (s .flow .first ≤ max 1 (l .server .acked)) × (l .model .settled ≡ l .model .samples)
   kept = fine s i l (k .present) .kept (k .writer, k .careful) (k .early, k .reliable, k .present .anew)
@@ -85,5 +98,6 @@ demand-3 =
       one-by-one = λ s i l p. one-round i l s (sound s (p .reached)) (p .there);
       told = λ s i l p n a q. told s i l p n a (omega arith);
       level = λ s s′ i r l p d. level s i l p s′ r d;
+      always = λ s i l p r. always r s i l p;
       coherent = coherent;
     }

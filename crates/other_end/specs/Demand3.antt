@@ -11,7 +11,7 @@ use Rattle.writer_send_buffer.specs.declared.limits.Limits.{Limits}
 use Rattle.writer_send_buffer.specs.Flow.{allowed, trims, ackedThrough}
 use Rattle.other_end.specs.Model.{base}
 use Rattle.other_end.specs.System.{Line, State, Event, find, run, start}
-use Rattle.other_end.specs.Rounds.{Round, Rounds, cleanRound}
+use Rattle.other_end.specs.Rounds.{Round, Rounds, cleanRound, cleanRounds}
 use Rattle.other_end.specs.Coherent.{Coherent}
 
 -- a state that the system comes to, from a new writer of any kind with any limits of the table and room for 1 to 64 readers, by any events in any order
@@ -78,5 +78,7 @@ pub record Demand3 : Type 0 where
       → (l′ : Line) × Present s′ i l′ × (s′ .flow .last ≡ s .flow .last)
       × ((n : ℕ) → base (l .model) + n ≡ suc (s .flow .last) → roundsFor n (min 256 (l .server .cap)) ≤ r → base (l′ .model) ≡ suc (s .flow .last))
       × (1 ≤ r → (l′ .server .acked ≡ base (l′ .model)) × (base (l′ .model) ≡ suc (s .flow .last) → l′ .server .unsent ≡ []))
+  -- and such rounds can always be had, as many as one likes
+  pub always : (s : State) (i : ℕ) (l : Line) → Present s i l → (r : ℕ) → Rounds i r s (cleanRounds i r s)
   -- no call of the system is refused with 1
   pub coherent : (s : State) → Reached s → Coherent s

@@ -86,3 +86,8 @@ Quiet i (deliver k ∷ es) = Quiet i es
 abbrev pub Rounds : ℕ → ℕ → State → State → Type 0
 Rounds i zero s s′ = s ≡ s′
 Rounds i (suc r) s s′ = (es : List Event) × Quiet i es × (t : State) × Round i (run es s) t × Rounds i r t s′
+
+-- r rounds, one straight after the other, each number sent and received at once
+abbrev pub cleanRounds : ℕ → ℕ → State → State
+cleanRounds i zero s = s
+cleanRounds i (suc r) s = cleanRounds i r (cleanRound i s)
