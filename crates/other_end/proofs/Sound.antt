@@ -150,7 +150,7 @@ module _ (s : State) (h : Sound s) where
       new = newcomer i r m s
 
       f′ : Flow
-      f′ = stored (frontier (matched i r (s .heads))) (s .flow)
+      f′ = joined i r m s .flow
 
       low′ : Low (s .flow .last) (matched i r (s .heads))
       low′ = low-set (s .flow .last) (s .heads) (placeOf 0 (s .heads)) x (omega arith) (h .low)
@@ -211,7 +211,7 @@ module _ (s : State) (h : Sound s) where
       }
     where
       f′ : Flow
-      f′ = stored (frontier (departed i (s .heads))) (s .flow)
+      f′ = left i s .flow
 
       low′ : Low (s .flow .last) (departed i (s .heads))
       low′ = low-set (s .flow .last) (s .heads) (placeOf i (s .heads)) free (omega arith) (h .low)
@@ -287,7 +287,7 @@ module _ (s : State) (h : Sound s) where
               record { some-id = o .some-id; there = there-other i j x (w .0) (w .0) (s .heads) ∙ o .there; head = head-other i j x (w .0) (w .0) (s .heads) ∙ o .head ∙ ap headOf (sym (w .1)) }
 
       f′ : Flow
-      f′ = stored (frontier (ackedHeads i z s)) (s .flow)
+      f′ = acknowledges i z s .flow
 
       each : (j : ℕ) (l′ l : Line) → Held (ackedHeads i z s) j l′ → find j (s .lines) ≡ some l → ((i ≡ l .id) × (l′ ≡ onServer (acknowledge (s .flow .last) (z .base) (members z)) l)) ⊎ (((i ≡ j) → ⊥) × (l′ ≡ l)) → Fine f′ (s .careful) (s .net) l′
       each j l′ l o e (inl w) =
@@ -330,7 +330,7 @@ module _ (s : State) (h : Sound s) where
 
   sound-evicts : (n : ℕ) → n ≤ s .flow .last + 1 → Sound (evicts n s)
   sound-evicts n q =
-      sound-flow (evicted n (s .flow)) (s .careful && (not (s .flow .present) || leb n (s .flow .acked))) refl refl refl
+      sound-flow (evicted n (s .flow)) (evicts n s .careful) refl refl refl
       (λ t. (t .0, and-left (s .careful) (not (s .flow .present) || leb n (s .flow .acked)) (t .1))) (flow-evicted (s .flow) (h .flow) n q)
       (λ l j e t k.
       let z = h .lines j l e .front (k .1) in
