@@ -1,25 +1,25 @@
 -- The other calls on a reader's record: one that isn't refused leaves it coherent, leaves acked and cap, and adds nothing unsent. Assumes nothing.
-use Prim.Native.Nat.{ℕ, zero, suc, _+_, _-_, _≤_, _<_, max}
-use mathlib.Core.Path.{_≡_, refl, sym, ap, subst, _∙_}
+use Prim.Native.Nat.{ℕ, suc, _-_, _≤_, max}
+use mathlib.Core.Path.{_≡_, refl, sym, _∙_}
 use mathlib.Core.Bool.{Bool, true, false, not, cond, _&&_, _||_, true≢false, false≢true}
 use mathlib.Core.Logic.{_⊎_, inl, inr}
-use mathlib.Core.List.{List, [], _∷_, map}
+use mathlib.Core.List.{List, [], _∷_}
 use lib.Dec.{ltb, leb, eqb}
 use lib.ListN.{length}
 use native.Mathlib.Omega.{arith}
-use borrow.Author.Tests.{ltb-true, ltb-false, leb-true, leb-false, eqb-true, eqb-false, not-true, not-false}
-use Rattle.sets.specs.Sets.{has, From, insert, only, those}
+use borrow.Author.Tests.{ltb-true, ltb-false, leb-true, leb-false, eqb-true, eqb-false, not-false}
+use Rattle.sets.specs.Sets.{has, From, insert, only}
 use Rattle.sets.proofs.Bools.{and-left, and-right, and-both, decide}
 use Rattle.sets.proofs.Has.{has-only, From-low, From-weak, From-insert, From-only, From-raise}
 use Rattle.sets.proofs.Those.{From-those}
 use Rattle.numbers.specs.Number.{topNumber, topFragment}
-use Rattle.numbers.specs.Refusals.{answerOf, isDone, unless}
+use Rattle.numbers.specs.Refusals.{answerOf, isDone}
 use Rattle.numbers.specs.declared.answer.Rows.{Rows}
 use Rattle.numbers.proofs.Refused.{Clear, clear}
-use Rattle.number_sets.specs.Bits.{NumberSet, bitAt, members}
+use Rattle.number_sets.specs.Bits.{bitAt, members}
 use Rattle.requested_fragments.specs.Entries.{Entry, isEmpty, requested, sent}
 use Rattle.rtps_reader_proxy.specs.Reader.{Reader, withGaps, withFrags, needsRoom, gapInserted, gapUpTo}
-use Rattle.other_end.specs.Calls.{Call, gapAt, gapTo, askFrags, sentFrag, markSent, removeBefore, result, gapsFull, fragsOut, callRows}
+use Rattle.other_end.specs.Calls.{Call, gapAt, gapTo, askFrags, sentFrag, markSent, removeBefore, result, gapsFull, callRows}
 use Rattle.other_end.specs.Coherent.{ReaderFits, Entries}
 use Rattle.other_end.proofs.Records.{length-only, length-insert, in-only, in-insert, Above, fits-only}
 use Rattle.other_end.proofs.Entries.{entries-requested, entries-sent}

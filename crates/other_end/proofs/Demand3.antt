@@ -1,5 +1,5 @@
 -- Demand 3 is proved. Assumes nothing.
-use Prim.Native.Nat.{ℕ, zero, suc, _+_, _-_, _*_, _≤_, _<_, min, max}
+use Prim.Native.Nat.{ℕ, zero, suc, _+_, _-_, _≤_, _<_, min, max}
 use mathlib.Core.Path.{_≡_, refl, sym, ap, subst, _∙_}
 use mathlib.Core.Bool.{Bool, true, false, not, _||_}
 use mathlib.Core.List.{List, []}
@@ -10,7 +10,7 @@ use borrow.Author.Tests.{ltb-true}
 use Rattle.sets.specs.Sets.{has}
 use Rattle.numbers.specs.Number.{topNumber}
 use Rattle.other_end.specs.Model.{base}
-use Rattle.other_end.specs.System.{Line, State, find, start}
+use Rattle.other_end.specs.System.{Line, State, start}
 use Rattle.other_end.specs.Rounds.{Round, Rounds, cleanRound, cleanRounds}
 use Rattle.other_end.specs.Coherent.{Coherent}
 use Rattle.other_end.specs.Demand3.{Reached, Present, Kept, HasData, HasSettled, Moved, roundsFor, Demand3}
@@ -19,10 +19,11 @@ use Rattle.other_end.proofs.Heads.{frontier-low}
 use Rattle.other_end.proofs.Records.{fits-more}
 use Rattle.other_end.proofs.Flows.{no-trim}
 use Rattle.other_end.proofs.Tests.{passes-tests, flow-coherent}
-use Rattle.other_end.proofs.Fine.{Early, Fine, base-pos}
+use Rattle.other_end.proofs.Fine.{Fine, base-pos}
 use Rattle.other_end.proofs.Sound.{Sound, sound-run, sound-start}
-use Rattle.other_end.proofs.Round.{round-moves, one-round}
-use Rattle.other_end.proofs.Rounds.{reached-round, Levelled, levelled, enough}
+use Rattle.other_end.proofs.Round.{round-moves}
+use Rattle.other_end.proofs.OneByOne.{one-round}
+use Rattle.other_end.proofs.Rounds.{reached-round, levelled, enough}
 
 pub sound : (s : State) → Reached s → Sound s
 sound s r = subst Sound (r .comes) (sound-run (r .events) (start (r .kind) (r .limits) (r .slots)) (sound-start (r .kind) (r .limits) (r .slots) (r .allowed) (r .some) (r .few)))

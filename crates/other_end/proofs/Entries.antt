@@ -1,24 +1,21 @@
 -- Requested fragments stay coherent: rising samples, each with at least one fragment. Assumes nothing.
-use Prim.Native.Nat.{ℕ, zero, suc, _+_, _-_, _≤_, _<_}
-use mathlib.Core.Path.{_≡_, refl, sym, ap, subst, _∙_}
+use Prim.Native.Nat.{ℕ, suc, _-_, _≤_}
+use mathlib.Core.Path.{_≡_, refl, sym, subst, _∙_}
 use mathlib.Core.Bool.{Bool, true, false, not, cond, _&&_, _||_, true≢false, false≢true}
 use mathlib.Core.Logic.{_⊎_, inl, inr}
 use mathlib.Core.List.{List, [], _∷_, map}
-use lib.Dec.{ltb, leb, eqb}
+use lib.Dec.{leb, eqb}
 use lib.ListN.{length}
 use native.Mathlib.Omega.{arith}
 use borrow.Author.Tests.{leb-true, leb-false, eqb-true, eqb-false}
-use Rattle.sets.specs.Sets.{has, From, union, only, without}
+use Rattle.sets.specs.Sets.{has, From, union, without}
 use Rattle.sets.proofs.Bools.{or-false}
 use Rattle.sets.proofs.Has.{lt-of-le-of-ne, has-union, From-low, From-union, From-only}
 use Rattle.numbers.specs.Number.{topNumber, topFragment}
 use Rattle.requested_fragments.specs.Entries.{Entry, entry, isEmpty, keep, asked, requested, sent}
 use Rattle.other_end.specs.Coherent.{Asked, Entries}
 use Rattle.other_end.specs.Calls.{fragsFull}
-use Rattle.other_end.proofs.Records.{length-only, length-insert, in-only}
-
-samples : List Entry → List ℕ
-samples es = map (λ e. e .sample) es
+use Rattle.other_end.proofs.Records.{length-insert, in-only}
 
 entries-weak : (a b : ℕ) (es : List Entry) → a ≤ b → Entries b es → Entries a es
 entries-weak a b [] q h = tt

@@ -1,21 +1,19 @@
 -- What holds of one line in every state that the system can reach, and what keeps it. Assumes nothing.
-use Prim.Native.Nat.{ℕ, zero, suc, _+_, _-_, _≤_, _<_, min, max}
+use Prim.Native.Nat.{ℕ, zero, suc, _+_, _-_, _≤_, max}
 use mathlib.Core.Path.{_≡_, refl, sym, ap, subst, _∙_}
-use mathlib.Core.Bool.{Bool, true, false, not, cond, _&&_, _||_}
+use mathlib.Core.Bool.{Bool, true, false, not}
 use mathlib.Core.Logic.{_⊎_, inl, inr}
-use mathlib.Core.List.{List, [], _∷_}
-use mathlib.Core.Option.{Option, none, some}
-use lib.Dec.{ltb, leb, eqb}
+use mathlib.Core.List.{List, _∷_}
+use mathlib.Core.Option.{some}
+use lib.Dec.{eqb}
 use native.Mathlib.Omega.{arith}
-use borrow.Author.Tests.{leb-true}
-use Rattle.sets.specs.Sets.{has, From, insert, without}
+use Rattle.sets.specs.Sets.{has, From, insert}
 use Rattle.sets.proofs.Bools.{or-right, decide}
 use Rattle.sets.proofs.Has.{has-insert, From-insert, From-only}
 use Rattle.numbers.specs.Refusals.{answerOf, isDone}
-use Rattle.number_sets.specs.Bits.{NumberSet, members}
 use Rattle.rtps_reader_proxy.specs.Reader.{Reader, baseOf, ackedAfter, acknowledge, notified, markedSent}
 use Rattle.writer_send_buffer.specs.Flow.{Flow}
-use Rattle.other_end.specs.Model.{Model, gapFrom, gotData, gotGap, gotBeat, base}
+use Rattle.other_end.specs.Model.{gapFrom, gotData, gotGap, gotBeat, base}
 use Rattle.other_end.specs.Calls.{Call, result, callRows}
 use Rattle.other_end.specs.System.{Line, Body, sample, gap, beat, ack, Msg, nth, onServer, onModel}
 use Rattle.other_end.specs.Coherent.{ReaderFits}

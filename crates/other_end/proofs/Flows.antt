@@ -1,17 +1,16 @@
 -- The flow record stays coherent under each step. Assumes nothing.
-use Prim.Native.Nat.{ℕ, zero, suc, _+_, _-_, _≤_, _<_, min, max}
-use mathlib.Core.Path.{_≡_, refl, sym, ap, subst, _∙_}
-use mathlib.Core.Bool.{Bool, true, false, not, cond, _&&_, _||_, true≢false, false≢true}
-use mathlib.Core.List.{List, [], _∷_}
-use lib.Dec.{ltb, leb, eqb}
+use Prim.Native.Nat.{ℕ, suc, _+_, _-_, _≤_, max}
+use mathlib.Core.Path.{_≡_, refl}
+use mathlib.Core.Bool.{Bool, true, false, not, cond, _&&_, _||_, false≢true}
+use lib.Dec.{leb, eqb}
 use native.Mathlib.Omega.{arith}
-use borrow.Author.Tests.{ltb-true, ltb-false, leb-true, leb-false, eqb-true, eqb-false, le-leb}
+use borrow.Author.Tests.{leb-true, leb-false, eqb-false, le-leb}
 use Rattle.sets.proofs.Bools.{and-left, and-right, and-both}
 use Rattle.numbers.specs.Number.{topNumber}
 use Rattle.numbers.proofs.Refused.{Clear}
 use Rattle.writer_send_buffer.specs.declared.limits.Kind.{Kind}
 use Rattle.writer_send_buffer.specs.declared.limits.Limits.{Limits}
-use Rattle.writer_send_buffer.specs.Flow.{Flow, allOf, limitRows, allowed, fitRows, fits, blank, trims, full, trimmed, admitted, admitRows, stored, raised, evicted}
+use Rattle.writer_send_buffer.specs.Flow.{Flow, allowed, fits, blank, trims, admitted, admitRows, stored, raised, evicted}
 
 -- a coherent flow record, in numbers
 pub record FlowOk (f : Flow) : Type 0 where

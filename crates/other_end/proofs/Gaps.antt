@@ -1,15 +1,15 @@
 -- The first number from b on that a rising set doesn't have: what makes a line's base the smallest positive number that isn't settled, and what its
 -- ACKNACK asks for. Assumes nothing.
-use Prim.Native.Nat.{ℕ, zero, suc, _+_, _-_, _≤_, _<_, min}
+use Prim.Native.Nat.{ℕ, suc, _+_, _-_, _≤_, _<_}
 use mathlib.Core.Path.{_≡_, refl, sym, ap, subst, _∙_}
 use mathlib.Core.Bool.{Bool, true, false, not, cond, _&&_, _||_}
-use mathlib.Core.Logic.{_⊎_, inl, inr}
+use mathlib.Core.Logic.{inl, inr}
 use mathlib.Core.List.{List, [], _∷_}
 use lib.Dec.{ltb, leb, eqb}
 use native.Mathlib.Nat.{lt-irrefl, le-refl}
 use native.Mathlib.Omega.{arith}
 use borrow.Author.Tests.{ltb-true, ltb-false, eqb-true, eqb-false, ne-eqb}
-use Rattle.sets.specs.Sets.{has, From, those}
+use Rattle.sets.specs.Sets.{has, From}
 use Rattle.sets.proofs.Bools.{and-left, and-right, clash, decide}
 use Rattle.sets.proofs.Has.{lt-of-le-of-ne, From-low}
 use Rattle.sets.proofs.Those.{has-those, has-those-is, From-those}

@@ -1,16 +1,16 @@
 -- The reader list: what stands in it for an id after a match, a departure or an acknowledgement, that it stays coherent, and the frontier against each of
 -- its heads. Assumes nothing.
-use Prim.Native.Nat.{ℕ, zero, suc, _+_, _≤_, _<_, min, max}
+use Prim.Native.Nat.{ℕ, zero, suc, _+_, _≤_, max}
 use mathlib.Core.Path.{_≡_, refl, sym, ap, subst, _∙_}
 use mathlib.Core.Bool.{Bool, true, false, not, cond, _&&_, _||_, true≢false, false≢true}
 use mathlib.Core.Logic.{_⊎_, inl, inr}
-use mathlib.Core.List.{List, [], _∷_, map}
+use mathlib.Core.List.{List, [], _∷_}
 use lib.Dec.{ltb, leb, eqb}
 use lib.ListN.{length, getD, set, replicate, length-set, length-replicate}
 use native.Mathlib.Omega.{arith}
-use borrow.Author.Tests.{ltb-true, ltb-false, lt-ltb, le-ltb, leb-true, le-leb, eqb-true, eqb-false, eq-eqb, ne-eqb, not-true, not-false}
-use Rattle.sets.proofs.Bools.{and-left, and-right, and-both, or-right, or-false, clash, decide}
-use Rattle.reader_list.specs.Readers.{Head, free, meet, frontier, placeOf, isThere, headAt, matched, departed, acknowledged, slotFits, slotsFit, different, fits}
+use borrow.Author.Tests.{ltb-true, ltb-false, lt-ltb, le-ltb, le-leb, eqb-true, eqb-false, eq-eqb, ne-eqb, not-true}
+use Rattle.sets.proofs.Bools.{and-left, and-right, and-both, or-right, clash, decide}
+use Rattle.reader_list.specs.Readers.{Head, free, meet, frontier, placeOf, isThere, headAt, acknowledged, slotFits, slotsFit, different, fits}
 
 -- the id is there if it stands first or further on
 pub there-is : (i : ℕ) (h : Head) (hs : List Head) → isThere i (h ∷ hs) ≡ (eqb (h .id) i || isThere i hs)
@@ -22,9 +22,6 @@ there-is i h hs = go (eqb (h .id) i)
       | inl e ↦ lt-ltb (suc (placeOf i hs)) (suc (length hs)) (omega (arith, ltb-true (placeOf i hs) (length hs) e)) ∙ sym e
       | inr e ↦ le-ltb (suc (placeOf i hs)) (suc (length hs)) (omega (arith, ltb-false (placeOf i hs) (length hs) e)) ∙ sym e
     ]
-
-pub none-there : (i : ℕ) → isThere i [] ≡ false
-none-there i = refl
 
 -- ONE SLOT CHANGED, the first of the id k: another id j stands where it stood
 module _ (k j : ℕ) (x : Head) (d : k ≡ j → ⊥) (c : x .id ≡ j → ⊥) where

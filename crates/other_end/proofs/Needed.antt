@@ -1,7 +1,7 @@
 -- Why demand 3 says what it says: runs, computed, in which a claim fails once one of its premises is dropped; and that it isn't empty. Assumes nothing.
 use Prim.Native.Nat.{ℕ}
 use mathlib.Core.Path.{_≡_, refl}
-use mathlib.Core.Bool.{Bool, true, false}
+use mathlib.Core.Bool.{true, false}
 use mathlib.Core.List.{List, [], _∷_}
 use mathlib.Core.Option.{Option, none, some}
 use native.Mathlib.Omega.{arith}
@@ -9,13 +9,11 @@ use Rattle.requested_fragments.specs.Entries.{entry}
 use Rattle.number_sets.specs.Bits.{wordOf, wordsOf}
 use Rattle.writer_send_buffer.specs.declared.limits.Kind.{Kind}
 use Rattle.writer_send_buffer.specs.declared.limits.Limits.{Limits}
-use Rattle.writer_send_buffer.specs.Flow.{Flow}
-use Rattle.rtps_reader_proxy.specs.Reader.{Reader}
-use Rattle.other_end.specs.Model.{Model, base}
-use Rattle.other_end.specs.Calls.{Call, gapAt, gapTo, askFrags}
-use Rattle.other_end.specs.System.{Line, State, Event, match, depart, write, sentTo, evictTo, call, heartbeat, send, reply, deliver, find, run, step, start, joined, withFlow}
+use Rattle.other_end.specs.Model.{base}
+use Rattle.other_end.specs.Calls.{gapAt, gapTo, askFrags}
+use Rattle.other_end.specs.System.{Line, State, Event, match, depart, write, evictTo, call, heartbeat, send, reply, deliver, find, run, start, joined, withFlow}
 use Rattle.other_end.specs.Rounds.{opened, drained, closed, cleanRound}
-use Rattle.other_end.specs.Demand3.{Reached, Present, Kept}
+use Rattle.other_end.specs.Demand3.{Reached, Kept}
 
 abbrev kind : Kind
 kind = record { reliable = true; builtin = false; volatile = true }

@@ -1,18 +1,18 @@
 -- A coherent reader record stays coherent under each step, and what the steps do to its unsent numbers. Assumes nothing.
-use Prim.Native.Nat.{ℕ, zero, suc, _+_, _-_, _≤_, _<_, min, max}
-use mathlib.Core.Path.{_≡_, refl, sym, ap, subst, _∙_}
-use mathlib.Core.Bool.{Bool, true, false, not, cond, _&&_, _||_, true≢false, false≢true}
+use Prim.Native.Nat.{ℕ, suc, _+_, _-_, _≤_, max}
+use mathlib.Core.Path.{_≡_, refl, sym, _∙_}
+use mathlib.Core.Bool.{Bool, true, false, not, cond, _&&_, false≢true}
 use mathlib.Core.Logic.{_⊎_, inl, inr}
-use mathlib.Core.List.{List, [], _∷_, map}
+use mathlib.Core.List.{List, [], _∷_}
 use lib.Dec.{ltb, leb, eqb}
-use lib.ListN.{length, take, drop, length-take, length-drop}
+use lib.ListN.{length}
 use native.Mathlib.Omega.{arith}
-use borrow.Author.Tests.{ltb-true, ltb-false, leb-true, leb-false, eqb-true, eqb-false, le-leb, not-true, not-false}
-use Rattle.sets.specs.Sets.{has, From, insert, union, only, between, without, smallest, largest}
-use Rattle.sets.proofs.Bools.{or-false, and-left, and-right, and-both, decide}
-use Rattle.sets.proofs.Has.{has-insert, has-union, has-only, has-between, From-low, From-weak, From-insert, From-union, From-only, From-raise}
+use borrow.Author.Tests.{ltb-true, ltb-false, leb-true, eqb-true, le-leb}
+use Rattle.sets.specs.Sets.{has, From, insert, only, between, smallest, largest}
+use Rattle.sets.proofs.Bools.{or-false, and-left, and-right, and-both}
+use Rattle.sets.proofs.Has.{has-insert, has-union, has-only, has-between, From-weak, From-insert, From-union, From-only, From-raise}
 use Rattle.sets.proofs.Smallest.{From-smallest, From-largest, smallest-few, largest-few, has-take-sub, has-drop-sub}
-use Rattle.rtps_reader_proxy.specs.Reader.{Reader, fresh, withUnsent, baseOf, isLate, ackedAfter, staying, wanted, acknowledge, notified, needsRoom, gapInserted, gapUpTo}
+use Rattle.rtps_reader_proxy.specs.Reader.{Reader, fresh, withUnsent, baseOf, isLate, ackedAfter, staying, wanted, acknowledge, notified}
 use Rattle.other_end.specs.Coherent.{ReaderFits}
 
 pub length-only : (p : ℕ → Bool) (l : List ℕ) → length (only p l) ≤ length l

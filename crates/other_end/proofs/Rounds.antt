@@ -1,29 +1,29 @@
 -- Several clean rounds, with anything but a write between them. Assumes nothing.
-use Prim.Native.Nat.{ℕ, zero, suc, _+_, _-_, _*_, _/_, _≤_, _<_, min, max}
+use Prim.Native.Nat.{ℕ, zero, suc, _+_, _-_, _*_, _≤_, _<_, min}
 use mathlib.Core.Path.{_≡_, refl, sym, ap, subst, _∙_}
-use mathlib.Core.Bool.{Bool, true, false, not, cond, _&&_, _||_, true≢false, false≢true}
+use mathlib.Core.Bool.{Bool, true, false, cond}
 use mathlib.Core.Logic.{_⊎_, inl, inr}
 use mathlib.Core.List.{List, [], _∷_, _++_}
 use mathlib.Core.Option.{Option, none, some}
-use lib.Dec.{ltb, leb, eqb}
+use lib.Dec.{ltb, eqb}
 use native.Mathlib.Omega.{arith}
 use native.Mathlib.Nat.{zero-mul, suc-mul, div-lt-iff-lt-mul}
 use borrow.Author.Tests.{eqb-true, eqb-false, ne-eqb}
 use Rattle.sets.proofs.Bools.{clash, decide}
 use Rattle.numbers.specs.Refusals.{row, rowsOf, answerOf, isDone}
 use Rattle.numbers.specs.declared.answer.Rows.{Rows}
-use Rattle.number_sets.specs.Bits.{NumberSet, members}
-use Rattle.rtps_reader_proxy.specs.Reader.{Reader, acknowledge, markedSent}
+use Rattle.number_sets.specs.Bits.{members}
+use Rattle.rtps_reader_proxy.specs.Reader.{acknowledge, markedSent}
 use Rattle.reader_list.specs.Readers.{isThere}
-use Rattle.writer_send_buffer.specs.Flow.{Flow, ahead, raised, evicted, retained}
-use Rattle.other_end.specs.Model.{Model, gotData, gotGap, gotBeat, base, ackNack}
+use Rattle.writer_send_buffer.specs.Flow.{ahead, raised}
+use Rattle.other_end.specs.Model.{gotData, gotGap, gotBeat, base}
 use Rattle.other_end.specs.Calls.{Call, result, callRows}
-use Rattle.other_end.specs.System.{Line, Body, sample, gap, beat, ack, Msg, State, Event, match, depart, write, sentTo, evictTo, call, heartbeat, send, reply, deliver, find, upd, nth, onServer, onModel, withLines, withFlow, post, tried, unknown, matchRows, newcomer, joined, left, ackRows, acknowledges, called, evicts, arrive, arrives, sendFirst, sendTo, beatTo, replyFrom, step, run}
-use Rattle.other_end.specs.Rounds.{opened, closed, Round, Quiet, Rounds}
+use Rattle.other_end.specs.System.{Line, Body, sample, gap, beat, ack, Msg, State, Event, match, depart, write, sentTo, evictTo, call, heartbeat, send, reply, deliver, find, upd, nth, onServer, onModel, withLines, withFlow, tried, unknown, matchRows, newcomer, joined, left, ackRows, acknowledges, called, evicts, arrive, arrives, sendFirst, sendTo, beatTo, replyFrom, step, run}
+use Rattle.other_end.specs.Rounds.{opened, Round, Quiet, Rounds}
 use Rattle.other_end.specs.Demand3.{Moved, Reached, roundsFor}
-use Rattle.other_end.proofs.Found.{find-id, find-same, find-other, find-stays}
+use Rattle.other_end.proofs.Found.{find-same, find-other, find-stays}
 use Rattle.other_end.proofs.Calls.{done-clear, both-false, call-cap}
-use Rattle.other_end.proofs.Fine.{Fine, Sane, base-last, settle-base}
+use Rattle.other_end.proofs.Fine.{Sane, base-last, settle-base}
 use Rattle.other_end.proofs.Sound.{Sound, sound-step, sound-run}
 use Rattle.other_end.proofs.Round.{round-moves}
 

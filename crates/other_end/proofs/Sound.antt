@@ -1,34 +1,33 @@
 -- What holds of every state that the system can reach, and that every step keeps it. Assumes nothing.
-use Prim.Native.Nat.{ℕ, zero, suc, _+_, _-_, _≤_, _<_, min, max}
+use Prim.Native.Nat.{ℕ, zero, suc, _+_, _-_, _≤_, max}
 use mathlib.Core.Path.{_≡_, refl, sym, ap, subst, _∙_}
-use mathlib.Core.Bool.{Bool, true, false, not, cond, _&&_, _||_, true≢false, false≢true}
+use mathlib.Core.Bool.{Bool, true, false, not, cond, _&&_, _||_, false≢true}
 use mathlib.Core.Logic.{_⊎_, inl, inr}
-use mathlib.Core.List.{List, [], _∷_, map}
+use mathlib.Core.List.{List, [], _∷_}
 use mathlib.Core.Option.{Option, none, some}
 use lib.Dec.{ltb, leb, eqb}
-use lib.ListN.{length, replicate}
 use native.Mathlib.Omega.{arith}
-use borrow.Author.Tests.{ltb-true, ltb-false, leb-true, leb-false, eqb-true, eqb-false, eq-eqb, ne-eqb, le-leb, not-true, not-false}
-use Rattle.sets.specs.Sets.{has, From, insert}
-use Rattle.sets.proofs.Bools.{or-right, and-left, and-right, and-both, clash, decide}
-use Rattle.numbers.specs.Refusals.{row, rowsOf, answerOf, isDone, unless}
+use borrow.Author.Tests.{ltb-false, leb-true, eqb-true, eqb-false, eq-eqb, ne-eqb, le-leb, not-true, not-false}
+use Rattle.sets.specs.Sets.{has, From}
+use Rattle.sets.proofs.Bools.{or-right, and-left, and-right, and-both, clash}
+use Rattle.numbers.specs.Refusals.{row, rowsOf, answerOf, isDone}
 use Rattle.numbers.specs.declared.answer.Rows.{Rows}
 use Rattle.numbers.proofs.Refused.{Clear}
 use Rattle.number_sets.specs.Bits.{NumberSet, members}
-use Rattle.rtps_reader_proxy.specs.Reader.{Reader, fresh, baseOf, isAhead, ackedAfter, acknowledge, notified, markedSent}
-use Rattle.reader_list.specs.Readers.{Head, free, frontier, placeOf, isThere, headAt, matched, departed, acknowledged, fits}
+use Rattle.rtps_reader_proxy.specs.Reader.{Reader, baseOf, ackedAfter, acknowledge, notified, markedSent}
+use Rattle.reader_list.specs.Readers.{Head, free, frontier, placeOf, isThere, headAt, matched, departed, fits}
 use Rattle.writer_send_buffer.specs.declared.limits.Kind.{Kind}
 use Rattle.writer_send_buffer.specs.declared.limits.Limits.{Limits}
-use Rattle.writer_send_buffer.specs.Flow.{Flow, allowed, trims, trimmed, admitted, admitRows, ahead, stored, raised, evicted, retained}
-use Rattle.other_end.specs.Model.{Model, unread, gotData, gotGap, gotBeat, base, ackNack}
+use Rattle.writer_send_buffer.specs.Flow.{Flow, allowed, admitted, admitRows, ahead, stored, raised, evicted, retained}
+use Rattle.other_end.specs.Model.{gotData, gotGap, gotBeat, base, ackNack}
 use Rattle.other_end.specs.Calls.{Call, result, callRows}
 use Rattle.other_end.specs.System.{Line, Body, sample, gap, beat, ack, Msg, State, Event, match, depart, write, sentTo, evictTo, call, heartbeat, send, reply, deliver, find, upd, dropped, nth, headOf, onServer, onModel, withLines, withFlow, post, tried, unknown, matchRows, newcomer, joined, left, ackRows, ackedHeads, acknowledges, called, wrote, evicts, arrive, arrives, sendFirst, sendTo, beatTo, replyFrom, step, run, start}
 use Rattle.other_end.proofs.Found.{none-some, none-msg, some-line, some-msg, find-id, find-upd, find-map, find-left}
-use Rattle.other_end.proofs.Heads.{there-other, head-other, set-own, MayCome, fits-set, fits-free, slot-fits, frontier-at, Low, low-set, low-at, low-more, low-free, frontier-low}
+use Rattle.other_end.proofs.Heads.{there-other, head-other, set-own, fits-set, fits-free, slot-fits, frontier-at, Low, low-set, low-at, low-more, low-free, frontier-low}
 use Rattle.other_end.proofs.Records.{fits-fresh}
 use Rattle.other_end.proofs.Calls.{done-clear, both-false, call-acked}
 use Rattle.other_end.proofs.Flows.{FlowOk, flow-blank, flow-stored, flow-raised, flow-evicted, flow-admitted, no-trim}
-use Rattle.other_end.proofs.Fine.{Early, Trusted, Sane, Good, Fine, sane-more, base-last, fine-data, fine-gap, fine-beat, fine-sent, fine-call, fine-ack, fine-notified, fine-flow, fine-post}
+use Rattle.other_end.proofs.Fine.{Early, Trusted, Sane, Good, Fine, sane-more, fine-data, fine-gap, fine-beat, fine-sent, fine-call, fine-ack, fine-notified, fine-flow, fine-post}
 
 -- in the list stands, for the id i, the head of the line l
 pub record Held (hs : List Head) (i : ℕ) (l : Line) : Type 0 where
@@ -237,9 +236,6 @@ module _ (s : State) (h : Sound s) where
         sane = h .sane;
       }
     where
-      b : ℕ
-      b = z .base
-
       up : Line → Line
       up = onServer (acknowledge (s .flow .last) (z .base) (members z))
 

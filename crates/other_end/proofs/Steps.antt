@@ -1,24 +1,22 @@
 -- The code does the system's steps: what a call's promise says of the head and the room that stand for a coherent reader, or of the record that stands for
 -- a coherent flow, is the step of the system, its refusals included. Assumes nothing.
-use Prim.Native.Nat.{ℕ, zero, suc, _+_, _-_, _≤_, _<_, max}
-use mathlib.Core.Path.{_≡_, refl, sym, ap, subst, _∙_}
-use mathlib.Core.Bool.{Bool, true, false, not, cond, _&&_, _||_, true≢false, false≢true}
+use Prim.Native.Nat.{ℕ, suc, _+_, _-_, _≤_, _<_}
+use mathlib.Core.Path.{_≡_, refl, sym, ap, _∙_}
+use mathlib.Core.Bool.{Bool, true, false, not, _&&_, _||_}
 use mathlib.Core.Logic.{_⊎_, inl, inr}
 use mathlib.Core.List.{List, [], _∷_}
-use lib.Dec.{ltb, leb, eqb}
+use lib.Dec.{ltb, leb}
 use lib.ListN.{length, take}
 use native.Mathlib.Omega.{arith}
-use borrow.Author.Tests.{ltb-true, ltb-false, leb-true, leb-false, lt-ltb, le-ltb, le-leb, lt-leb}
-use Rattle.sets.specs.Sets.{has}
+use borrow.Author.Tests.{leb-true, leb-false, lt-ltb, le-ltb, le-leb}
 use Rattle.sets.proofs.Bools.{decide, or-right}
-use Rattle.numbers.specs.Number.{topNumber, rankOf, negative, isSample, numberAt, inRange}
+use Rattle.numbers.specs.Number.{topNumber, rankOf, negative, isSample, numberAt}
 use Rattle.numbers.proofs.Ranks.{rank-back, range-of}
-use Rattle.numbers.specs.Refusals.{Row, row, rowsOf, answerOf, isDone, unless, done}
+use Rattle.numbers.specs.Refusals.{Row, row, rowsOf, unless, done}
 use Rattle.numbers.specs.Promise.{Left1}
 use Rattle.numbers.specs.declared.answer.Answer.{Answer}
 use Rattle.numbers.specs.declared.answer.Rows.{Rows}
 use Rattle.rising.proofs.Meaning.{room-take}
-use Rattle.rtps_reader_proxy.specs.declared.proxy.ReaderProxy.{ReaderProxy}
 use Rattle.rtps_reader_proxy.specs.declared.proxy.Changed.{Changed}
 use Rattle.rtps_reader_proxy.specs.Reader.{Reader, markedSent, removedBefore, notified, needsRoom, gapInserted, gapUpTo}
 use Rattle.rtps_reader_proxy.specs.Record.{unsentOk, gapsOk, headOf, unsentRoom, gapRoom}
@@ -29,7 +27,7 @@ use Rattle.writer_send_buffer.specs.declared.flow.Told.{Told}
 use Rattle.writer_send_buffer.specs.declared.frontiers.AckedFrontier.{AckedFrontier}
 use Rattle.writer_send_buffer.specs.Flow.{Flow, ahead, stored, wakes, raised, evicted}
 use Rattle.writer_send_buffer.specs.Buffer.{view, form, isCoherent, ranged, toldNo, frontierOf, ackedOf, sentOf, evictOf}
-use Rattle.other_end.specs.Calls.{Call, gapAt, gapTo, markSent, removeBefore, result, gapsFull, callRows}
+use Rattle.other_end.specs.Calls.{gapAt, gapTo, markSent, removeBefore, result, callRows}
 use Rattle.other_end.specs.Coherent.{ReaderFits}
 use Rattle.other_end.proofs.Flows.{FlowOk}
 use Rattle.other_end.proofs.Tests.{not-below, passes-tests, view-form, flow-coherent}

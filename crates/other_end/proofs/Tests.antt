@@ -1,19 +1,18 @@
 -- Coherence on natural numbers is what the code's own tests ask of the heads and rooms. Assumes nothing.
-use Prim.Native.Nat.{ℕ, zero, suc, _+_, _-_, _≤_, _<_, max}
-use mathlib.Core.Path.{_≡_, refl, sym, ap, subst, _∙_}
-use mathlib.Core.Bool.{Bool, true, false, not, cond, _&&_}
-use mathlib.Core.List.{List, []}
-use lib.Dec.{ltb, leb, eqb}
+use Prim.Native.Nat.{ℕ, suc, _-_, _<_, max}
+use mathlib.Core.Path.{_≡_, sym, ap, subst, _∙_}
+use mathlib.Core.Bool.{true, false, not}
+use lib.Dec.{leb, eqb}
 use lib.ListN.{length}
 use native.Mathlib.Omega.{arith}
-use borrow.Author.Tests.{lt-ltb, le-leb, eq-eqb}
-use Rattle.sets.specs.Sets.{has, From}
+use borrow.Author.Tests.{le-leb, eq-eqb}
+use Rattle.sets.specs.Sets.{From}
 use Rattle.sets.proofs.Bools.{and-both}
 use Rattle.sets.proofs.Has.{From-low, From-raise}
 use Rattle.numbers.specs.Number.{topNumber, rankOf, negative, numberAt, inRange}
 use Rattle.numbers.proofs.Ranks.{rank-back, in-range, range-of}
-use Rattle.rising.specs.Runs.{runOk, roomOf}
-use Rattle.rising.proofs.Meaning.{Rising, room-length, room-ok}
+use Rattle.rising.specs.Runs.{runOk}
+use Rattle.rising.proofs.Meaning.{room-length, room-ok}
 use Rattle.rtps_reader_proxy.specs.Reader.{Reader}
 use Rattle.rtps_reader_proxy.specs.Record.{headOk, unsentOk, gapFloor, gapsOk, headOf, unsentRoom, gapRoom}
 use Rattle.writer_send_buffer.specs.Flow.{Flow, fits}

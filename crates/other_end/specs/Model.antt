@@ -1,6 +1,6 @@
 -- The model reader: a line at the other end. Every step computes. Assumes nothing.
-use Prim.Native.Nat.{ℕ, zero, suc, _-_, min, max}
-use mathlib.Core.Bool.{Bool, not, cond}
+use Prim.Native.Nat.{ℕ, suc, _-_, min, max}
+use mathlib.Core.Bool.{not, cond}
 use mathlib.Core.List.{List, [], _∷_}
 use lib.Dec.{eqb}
 use Rattle.sets.specs.Sets.{has, insert, those}

@@ -2,7 +2,7 @@
 -- neither alters nor invents: it is the list of all messages ever sent, of which any may arrive at any time, any number of times, or never.
 -- A step is a function, a run a fold over events; every run computes. Assumes nothing.
 use Prim.Native.Nat.{ℕ, zero, suc, _+_}
-use mathlib.Core.Bool.{Bool, true, false, not, cond, _&&_, _||_}
+use mathlib.Core.Bool.{Bool, true, not, cond, _&&_, _||_}
 use mathlib.Core.List.{List, [], _∷_, map}
 use mathlib.Core.Option.{Option, none, some}
 use lib.Dec.{ltb, leb, eqb}
