@@ -154,6 +154,11 @@ three-lost : view (find 1 (closed 1 (run (send 1 ∷ send 1 ∷ []) (opened 1 th
 unfolding wordOf wordsOf
 three-lost = refl
 
+-- NO HEARTBEAT: what is unsent is sent, but the line doesn't know that there was a 1 before it hears of 2, and so doesn't move on
+three-unannounced : view (find 1 (closed 1 (drained 1 (closed 1 three)) .lines)) ≡ 1 ∷ 1 ∷ 1 ∷ []
+unfolding wordOf wordsOf
+three-unannounced = refl
+
 -- sent both, then received in the other order: as one by one
 three-swapped : view (find 1 (closed 1 (run (send 1 ∷ send 1 ∷ deliver 0 ∷ deliver 1 ∷ []) (opened 1 three)) .lines)) ≡ 3 ∷ 3 ∷ 3 ∷ []
 unfolding wordOf wordsOf
