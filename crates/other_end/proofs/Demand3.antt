@@ -1,0 +1,104 @@
+-- Demand 3 is proved. Assumes nothing.
+use Prim.Native.Nat.{ℕ, zero, suc, _+_, _-_, _≤_, _<_, min, max}
+use mathlib.Core.Path.{_≡_, refl, sym, ap, subst, _∙_}
+use mathlib.Core.Bool.{Bool, true, false, not, _||_}
+use mathlib.Core.List.{List, []}
+use mathlib.Core.Option.{some}
+use lib.Dec.{ltb}
+use native.Mathlib.Omega.{arith}
+use borrow.Author.Tests.{ltb-true}
+use Rattle.sets.specs.Sets.{has}
+use Rattle.numbers.specs.Number.{topNumber}
+use Rattle.other_end.specs.Model.{base}
+use Rattle.other_end.specs.System.{Line, State, start}
+use Rattle.other_end.specs.Rounds.{Round, Rounds, cleanRound, cleanRounds}
+use Rattle.other_end.specs.Coherent.{Coherent}
+use Rattle.other_end.specs.Demand3.{Reached, Present, Kept, HasData, HasSettled, Moved, roundsFor, Demand3}
+use Rattle.other_end.proofs.Gaps.{gap-ge, gap-all, gap-not}
+use Rattle.other_end.proofs.Heads.{frontier-low}
+use Rattle.other_end.proofs.Records.{fits-more}
+use Rattle.other_end.proofs.Flows.{no-trim}
+use Rattle.other_end.proofs.Tests.{passes-tests, flow-coherent}
+use Rattle.other_end.proofs.Fine.{Fine, base-pos}
+use Rattle.other_end.proofs.Sound.{Sound, sound-run, sound-start}
+use Rattle.other_end.proofs.Round.{round-moves}
+use Rattle.other_end.proofs.OneByOne.{one-round}
+use Rattle.other_end.proofs.Rounds.{reached-round, levelled, enough}
+
+pub sound : (s : State) → Reached s → Sound s
+sound s r = subst Sound (r .comes) (sound-run (r .events) (start (r .kind) (r .limits) (r .slots)) (sound-start (r .kind) (r .limits) (r .slots) (r .allowed) (r .some) (r .few)))
+
+pub coherent : (s : State) → Reached s → Coherent s
+coherent s r =
+    let h = sound s r in
+    record {
+      flow = flow-coherent (s .flow) (h .flow);
+      list = h .list;
+      readers = λ i l e. let f = fits-more (s .flow .last) topNumber (l .server) (h .flow .last) (h .lines i l e .fits) in (f, passes-tests (l .server) f);
+      heads = λ i l e. (h .held i l e .there, h .held i l e .head);
+      frontier = frontier-low (s .flow .last) (s .heads) (h .low);
+    }
+
+module _ (s : State) (i : ℕ) (l : Line) (p : Present s i l) where
+  fine : Fine (s .flow) (s .careful) (s .net) l
+  fine = sound s (p .reached) .lines i l (p .there)
+
+  told : (n : ℕ) → 1 ≤ n → n < max 1 (l .server .acked) → HasSettled l n
+  told n a q = gap-all 1 (l .model .settled) n (fine .rise) a (omega (arith, fine .credit (p .anew), base-pos (s .flow) (s .careful) (s .net) l fine))
+
+  level : (s′ : State) (r : ℕ) → Rounds i r s s′
+      → (l′ : Line) × Present s′ i l′ × (s′ .flow .last ≡ s .flow .last)
+      × ((n : ℕ) → base (l .model) + n ≡ suc (s .flow .last) → roundsFor n (min 256 (l .server .cap)) ≤ r → base (l′ .model) ≡ suc (s .flow .last))
+      × (1 ≤ r → (l′ .server .acked ≡ base (l′ .model)) × (base (l′ .model) ≡ suc (s .flow .last) → l′ .server .unsent ≡ []))
+  level s′ r d =
+      let v = levelled i r l s s′ (p .reached) (sound s (p .reached)) (p .anew) (p .there) d in (
+        v .line,
+        record { reached = v .reached; there = v .found; anew = v .anew ∙ p .anew },
+        v .last,
+        λ n e q. let z = v .on (suc (s .flow .last)) (omega arith) (enough (base (l .model)) n (min 256 (l .server .cap)) r (suc (s .flow .last)) (omega (arith, fine .fits .cap-low)) e q) in omega (arith, z, v .within),
+        λ q. v .agrees (λ e. absurd (omega arith)),
+      )
+
+  round : (s′ : State) → Round i s s′ → (l′ : Line) × Present s′ i l′ × (s′ .flow .last ≡ s .flow .last) × (l′ .server .cap ≡ l .server .cap) × Moved (s .flow .last) l l′
+  round s′ d =
+      let m = round-moves i l s (sound s (p .reached)) (p .there) s′ (p .anew) d in
+      (m .0, record { reached = reached-round i s s′ (p .reached) d; there = m .1; anew = m .4 ∙ p .anew }, m .2, m .3, m .5)
+
+always : (r : ℕ) (s : State) (i : ℕ) (l : Line) → Present s i l → Rounds i r s (cleanRounds i r s)
+always zero s i l p = refl
+always (suc r) s i l p =
+    let d = one-round i l s (sound s (p .reached)) (p .there) in
+    let m = round s i l p (cleanRound i s) d in
+    ([], tt, cleanRound i s, d, always r (cleanRound i s) i (m .0) (m .1))
+
+-- "Its base is the smallest positive number not settled"
+pub base-is : (s : State) (i : ℕ) (l : Line) → Present s i l → (1 ≤ base (l .model)) × (has (l .model .settled) (base (l .model)) ≡ false) × ((n : ℕ) → 1 ≤ n → n < base (l .model) → HasSettled l n)
+base-is s i l p =
+    let f = fine s i l p in
+    (gap-ge 1 (l .model .settled), gap-not 1 (l .model .settled) (f .rise), λ n a q. gap-all 1 (l .model .settled) n (f .rise) a q)
+
+module _ (s : State) (i : ℕ) (l : Line) (k : Kept s i l) where
+  kept : (s .flow .first ≤ max 1 (l .server .acked)) × (l .model .settled ≡ l .model .samples)
+  kept = fine s i l (k .present) .kept (k .writer, k .careful) (k .early, k .reliable, k .present .anew)
+
+  below : (n : ℕ) → 1 ≤ n → n < max 1 (l .server .acked) → HasData l n
+  below n a q = subst (λ (u : List ℕ). has u n ≡ true) (kept .1) (told s i l (k .present) n a q)
+
+pub demand-3 : Demand3
+demand-3 =
+    record {
+      credit = λ s i l k n a q. below s i l k n a (omega arith);
+      frontier = λ s i l k n a q. below s i l k n a (omega (arith, fine s i l (k .present) .front (k .reliable) .1));
+      through = λ s i l k t y n a q.
+          let f = fine s i l (k .present) .front (k .reliable) in
+          let w : t < s .flow .acked = ltb-true t (s .flow .acked) (sym (ap (λ (p : Bool). not p || ltb t (s .flow .acked)) (f .0)) ∙ y) in
+          below s i l k n a (omega (arith, f .1, w));
+      evicted = λ s i l k n a q. below s i l k n a (omega (arith, kept s i l k .0));
+      untrimmed = λ s i l k opted. no-trim (s .flow) opted (k .writer) (fine s i l (k .present) .front (k .reliable) .0);
+      round = λ s s′ i l p d. round s i l p s′ d;
+      one-by-one = λ s i l p. one-round i l s (sound s (p .reached)) (p .there);
+      told = λ s i l p n a q. told s i l p n a (omega arith);
+      level = λ s s′ i r l p d. level s i l p s′ r d;
+      always = λ s i l p r. always r s i l p;
+      coherent = coherent;
+    }

@@ -1,0 +1,7 @@
+-- The definitions of `other_end`; what is promised is in Demand3.
+pub mod Model
+pub mod Calls
+pub mod System
+pub mod Rounds
+pub mod Coherent
+pub mod Demand3
