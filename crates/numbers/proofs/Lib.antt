@@ -1,4 +1,5 @@
 -- Laws that belong to no one function.
 pub mod Signed
 pub mod Refused
+pub mod Ranks
 pub mod One

@@ -48,24 +48,28 @@ done = record { number = 0 }
 abbrev pub isDone : Answer → Bool
 isDone a = eqb (a .number) 0
 
--- no row holds: a call names the rows that it can be refused by
-abbrev pub noRows : Rows
-noRows =
+-- the rows of a call, from the table of those that it can be refused by: each a number and when it holds
+abbrev pub holdsIn : ℕ → List Row → Bool
+holdsIn n [] = false
+holdsIn n (r ∷ rs) = cond (eqb (r .number) n) (r .holds) (holdsIn n rs)
+
+abbrev pub rowsOf : List Row → Rows
+rowsOf rs =
     record {
-      limit = false;
-      incoherent = false;
-      bits = false;
-      range = false;
-      reader = false;
-      ahead = false;
-      payload = false;
-      «used_up» = false;
-      «would_block» = false;
-      «store_full» = false;
-      «readers_full» = false;
-      «gaps_full» = false;
-      «frags_full» = false;
-      nothing = false;
+      limit = holdsIn 13 rs;
+      incoherent = holdsIn 1 rs;
+      bits = holdsIn 3 rs;
+      range = holdsIn 2 rs;
+      reader = holdsIn 11 rs;
+      ahead = holdsIn 12 rs;
+      payload = holdsIn 4 rs;
+      «used_up» = holdsIn 5 rs;
+      «would_block» = holdsIn 6 rs;
+      «store_full» = holdsIn 7 rs;
+      «readers_full» = holdsIn 8 rs;
+      «gaps_full» = holdsIn 9 rs;
+      «frags_full» = holdsIn 10 rs;
+      nothing = holdsIn 14 rs;
     }
 
 -- what comes of a call: where a row holds, what the refusal leaves; else what is done

@@ -1,8 +1,9 @@
 // The numbers returned, and the one place that puts them in order.
 ghost use mathlib.Core.Path.{_≡_};
 ghost use mathlib.Core.Bool.{cond};
+ghost use mathlib.Core.List.{[]};
 ghost use lib.Dec.{eqb};
-ghost use Rattle.numbers.specs.Refusals.{answerOf, noRows};
+ghost use Rattle.numbers.specs.Refusals.{answerOf, rowsOf};
 
 // The number of a call's answer: 0, or the number of the first row that holds.
 #[repr(C)]
@@ -117,7 +118,7 @@ impl Answer {
 impl Rows {
     // No row holds.
     pub fn none() -> Rows
-        ensures { λ r. ⌜ r ≡ noRows ⌝ }
+        ensures { λ r. ⌜ r ≡ rowsOf [] ⌝ }
     {
         Rows {
             limit: false,

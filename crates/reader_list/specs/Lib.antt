@@ -1,0 +1,2 @@
+-- The definitions of `reader_list`.
+pub mod Readers

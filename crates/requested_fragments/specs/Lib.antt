@@ -1,0 +1,2 @@
+-- The definitions of `requested_fragments`.
+pub mod Entries

@@ -1,0 +1,1 @@
+// Requested fragments in lent rooms.

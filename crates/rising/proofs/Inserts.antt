@@ -1,0 +1,156 @@
+-- A number found by its place in a run: taken out, put in, or the run cut there. Assumes nothing.
+use Prim.Native.Nat.{ℕ, suc, zero, _+_, _-_, _<_, _≤_, min, max, zero-le, suc-le-suc}
+use mathlib.Core.Path.{_≡_, refl, sym, ap, _∙_}
+use mathlib.Core.Bool.{Bool, true, false, cond, false≢true}
+use mathlib.Core.List.{List, [], _∷_, _++_, append-nil, append-assoc}
+use native.Mathlib.Omega.{arith}
+use native.Mathlib.Nat.{lt-irrefl}
+use lib.Dec.{leb, ltb, eqb}
+use lib.ListN.{length, take, drop, set, replicate, length-append, length-take, length-drop}
+use lib.Seq.{length-take-le, take-all, take-append-le, drop-append-le, set-at, drop-drop, take-suc}
+use borrow.Author.Tests.{le-leb, lt-leb, le-ltb, lt-ltb, eq-eqb, ne-eqb, leb-true, leb-false, eqb-true, eqb-false}
+use Rattle.numbers.specs.Promise.{Gives1}
+use Rattle.sets.specs.Sets.{insert, largest}
+use Rattle.rising.specs.Runs.{placeOf, holdsAt, cutOut, putIn, removed, fromOn, before, insertWithin, newest, over, inRoom}
+use Rattle.rising.proofs.Lists.{done, dropped}
+use Rattle.rising.proofs.Rooms.{past-room, changed, unchanged, as-well, back}
+
+pub place-le : (n : ℕ) (l : List ℕ) → placeOf n l ≤ length l
+place-le n [] = zero-le
+place-le n (x ∷ xs) = go (leb n x) (place-le n xs)
+  where
+    go : (t : Bool) → placeOf n xs ≤ length xs → cond t 0 (suc (placeOf n xs)) ≤ suc (length xs)
+    go true h = zero-le
+    go false h = suc-le-suc h
+
+pub insert-has : (n : ℕ) (l : List ℕ) → holdsAt n l (placeOf n l) ≡ true → insert n l ≡ l
+insert-has n [] h = absurd (false≢true h)
+insert-has n (x ∷ xs) h = go (leb n x) refl h (insert-has n xs)
+  where
+    go : (t : Bool) → leb n x ≡ t → holdsAt n (x ∷ xs) (cond t 0 (suc (placeOf n xs))) ≡ true → (holdsAt n xs (placeOf n xs) ≡ true → insert n xs ≡ xs) → insert n (x ∷ xs) ≡ x ∷ xs
+    go true e q r = let z = eqb-true x n q in rw (le-ltb n x (omega arith), eq-eqb n x (sym z))
+    go false e q r =
+        let w = leb-false n x e in
+        rw (le-ltb n x (omega arith), ne-eqb n x (λ z. lt-irrefl n (omega arith))) (ap (λ (y : List ℕ). x ∷ y) (r q))
+
+pub insert-new : (n : ℕ) (l : List ℕ) → holdsAt n l (placeOf n l) ≡ false → insert n l ≡ putIn (placeOf n l) n l
+insert-new n [] h = refl
+insert-new n (x ∷ xs) h = go (leb n x) refl h (insert-new n xs)
+  where
+    go : (t : Bool) → leb n x ≡ t → holdsAt n (x ∷ xs) (cond t 0 (suc (placeOf n xs))) ≡ false → (holdsAt n xs (placeOf n xs) ≡ false → insert n xs ≡ putIn (placeOf n xs) n xs)
+        → insert n (x ∷ xs) ≡ putIn (cond t 0 (suc (placeOf n xs))) n (x ∷ xs)
+    go true e q r =
+        let d = eqb-false x n q in
+        let w = leb-true n x e in
+        rw (lt-ltb n x (below n x w d))
+      where
+        below : (n x : ℕ) → n ≤ x → (x ≡ n → ⊥) → n < x
+        below n x w d = omega arith
+    go false e q r =
+        let w = leb-false n x e in
+        rw (le-ltb n x (omega arith), ne-eqb n x (λ z. lt-irrefl n (omega arith))) (ap (λ (y : List ℕ). x ∷ y) (r q))
+
+pub put-length : (i n : ℕ) (l : List ℕ) → length (putIn i n l) ≡ suc (length l)
+put-length i n l = simp (length-append, length-take, length-drop) (omega arith)
+
+-- in the run of c numbers of a room a, i is the place of n
+module _ (c n i : ℕ) (a : List ℕ) (h : c ≤ length a) (e : i ≡ placeOf n (take c a)) where
+  lc : length (take c a) ≡ c
+  lc = length-take-le c a h
+
+  pub place-in : i ≤ c
+  place-in = omega (arith, place-le n (take c a), lc)
+
+  pub removed-held : (t : Bool) → t ≡ holdsAt n (take c a) i → t ≡ true → cutOut i 1 (take c a) ≡ removed n (take c a)
+  removed-held t p q = rw (← e, ← p, q)
+
+  pub removed-none : (t : Bool) → t ≡ holdsAt n (take c a) i → t ≡ false → Gives1 c a (inRoom (removed n) c a)
+  removed-none t p q = unchanged (removed n) c a h (rw (← e, ← p, q))
+
+  pub from-is : cutOut 0 i (take c a) ≡ fromOn n (take c a)
+  from-is = let z : 0 + i ≡ i = omega arith in rw (z, ← e)
+
+  pub before-is : cutOut i (c - i) (take c a) ≡ before n (take c a)
+  before-is =
+      let p = place-in in
+      let z : i + (c - i) ≡ c = omega arith in
+      rw (z, done (take c a) c (omega (arith, lc)), append-nil, ← e)
+
+  module _ (t : Bool) (p : t ≡ holdsAt n (take c a) i) where
+    is-held : t ≡ true → insert n (take c a) ≡ take c a
+    is-held q = insert-has n (take c a) (ap (holdsAt n (take c a)) (sym e) ∙ sym p ∙ q)
+
+    is-new : t ≡ false → insert n (take c a) ≡ putIn i n (take c a)
+    is-new q = insert-new n (take c a) (ap (holdsAt n (take c a)) (sym e) ∙ sym p ∙ q) ∙ ap (λ (x : ℕ). putIn x n (take c a)) (sym e)
+
+    new-length : t ≡ false → length (insert n (take c a)) ≡ suc c
+    new-length q = ap length (is-new q) ∙ put-length i n (take c a) ∙ ap suc lc
+
+    within-same : insert n (take c a) ≡ take c a → insertWithin (length a) n (take c a) ≡ take c a
+    within-same q = go (leb (length (insert n (take c a))) (length a))
+      where
+        go : (b : Bool) → cond b (insert n (take c a)) (take c a) ≡ take c a
+        go true = q
+        go false = refl
+
+    newest-few : (m : ℕ) → length (insert n (take c a)) ≤ m → newest m n (take c a) ≡ insert n (take c a)
+    newest-few m q = let z : length (insert n (take c a)) - m ≡ 0 = omega arith in ap (λ (x : ℕ). drop x (insert n (take c a))) z
+
+    -- it is there
+    pub insert-held : t ≡ true → Gives1 c a (inRoom (insertWithin (length a) n) c a)
+    insert-held q = unchanged (insertWithin (length a) n) c a h (within-same (is-held q))
+
+    pub newest-held : t ≡ true → Gives1 c a (inRoom (newest (length a) n) c a)
+    newest-held q = unchanged (newest (length a) n) c a h (newest-few (length a) (omega (arith, ap length (is-held q), lc)) ∙ is-held q)
+
+    -- there is no room for it
+    pub insert-full : t ≡ false → c ≡ length a → Gives1 c a (inRoom (insertWithin (length a) n) c a)
+    insert-full q f =
+        unchanged (insertWithin (length a) n) c a h
+        (ap (λ (b : Bool). cond b (insert n (take c a)) (take c a)) (lt-leb (length (insert n (take c a))) (length a) (omega (arith, new-length q))))
+
+    module _ (r : ℕ) (u : List ℕ) (k : (r ≡ c + 1) × (u ≡ over a c (putIn i n (take c a)))) (q : t ≡ false) (f : c < length a) where
+      put-count : r ≡ length (insert n (take c a))
+      put-count = omega (arith, new-length q)
+
+      put-room : u ≡ over a c (insert n (take c a))
+      put-room = k .1 ∙ ap (over a c) (sym (is-new q))
+
+      pub insert-put : Gives1 r u (inRoom (insertWithin (length a) n) c a)
+      insert-put =
+          let w : insertWithin (length a) n (take c a) ≡ insert n (take c a) =
+          ap (λ (b : Bool). cond b (insert n (take c a)) (take c a)) (le-leb (length (insert n (take c a))) (length a) (omega (arith, new-length q))) in
+          changed (insertWithin (length a) n) c a h r u (put-count ∙ ap length (sym w)) (put-room ∙ ap (over a c) (sym w))
+
+      pub newest-put : Gives1 r u (inRoom (newest (length a) n) c a)
+      newest-put =
+          let w = newest-few (length a) (omega (arith, new-length q)) in
+          changed (newest (length a) n) c a h r u (put-count ∙ ap length (sym w)) (put-room ∙ ap (over a c) (sym w))
+
+    module _ (q : t ≡ false) (f : c ≡ length a) where
+      one-out : newest (length a) n (take c a) ≡ drop 1 (putIn i n (take c a))
+      one-out =
+          let z : length (insert n (take c a)) - length a ≡ 1 = omega (arith, new-length q) in
+          ap (λ (x : ℕ). drop x (insert n (take c a))) z ∙ ap (drop 1) (is-new q)
+
+      -- it is the smallest itself
+      pub newest-first : i ≡ 0 → Gives1 c a (inRoom (newest (length a) n) c a)
+      newest-first z = unchanged (newest (length a) n) c a h (one-out ∙ ap (λ (x : ℕ). drop 1 (putIn x n (take c a))) z)
+
+      -- those below it move down by one
+      pub newest-moved : (u : List ℕ) → 0 < i → u ≡ set (back 0 i a (dropped 1 (take (i - 0) (drop 0 a)))) (i - 1) n → Gives1 c u (inRoom (newest (length a) n) c a)
+      newest-moved u z w =
+          let pi = place-in in
+          let al : take c a ≡ a = take-all c a (omega arith) in
+          let i0 : i - 0 ≡ i = omega arith in
+          let li : length (take i a) ≡ i = length-take-le i a (omega arith) in
+          let m1 : min 1 (length (take i a)) ≡ 1 = omega arith in
+          let ld : length (drop 1 (take i a)) ≡ i - 1 = length-drop 1 (take i a) ∙ ap (λ (x : ℕ). x - 1) li in
+          let o : newest (length a) n (take c a) ≡ drop 1 (take i a) ++ (n ∷ drop i a) =
+          one-out ∙ ap (λ (x : List ℕ). drop 1 (putIn i n x)) al ∙ drop-append-le 1 (take i a) (n ∷ drop i a) (omega arith) in
+          let lo : length (drop 1 (take i a) ++ (n ∷ drop i a)) ≡ c = simp (length-append, length-drop) (omega (arith, li, length-drop i a)) in
+          let room : set (back 0 i a (dropped 1 (take (i - 0) (drop 0 a)))) (i - 1) n ≡ drop 1 (take i a) ++ (n ∷ drop i a) =
+          rw (i0, m1, append-assoc (drop 1 (take i a)), set-at (drop 1 (take i a)) 0 (drop i a) n (i - 1) ld) in
+          let nx : drop (max c c) a ≡ [] = done a (max c c) (omega arith) in
+          let cc0 : c - c ≡ 0 = omega arith in
+          changed (newest (length a) n) c a h c u (sym (ap length o ∙ lo)) (w ∙ room ∙ sym (ap (over a c) o ∙ rw (lo, cc0, nx, append-nil)))

@@ -1,0 +1,7 @@
+pub mod Lists
+pub mod Scans
+pub mod Rooms
+pub mod Inserts
+pub mod Merging
+pub mod Meaning
+pub mod Changes

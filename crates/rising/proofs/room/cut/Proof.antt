@@ -1,0 +1,70 @@
+-- `cut` meets its contract. Assumes nothing.
+use Prim.Native.Nat.{ℕ, _≤_, _<_, _+_, _-_}
+use mathlib.Core.Path.{_≡_, refl, sym, ap, _∙_}
+use mathlib.Core.List.{List}
+use native.Mathlib.Omega.{arith}
+use lib.ListN.{length, take, drop, set}
+use lib.Seq.{length-take-le}
+use Rattle.rising.specs.Runs.{removed, fromOn, before, cutOut}
+use Rattle.rising.proofs.Rooms.{past-room, changed, unchanged, as-well, back, cut-none, cut-some, open-done, put-done}
+use Rattle.rising.proofs.Inserts.{place-in, removed-held, removed-none, from-is, before-is, insert-held, insert-full, insert-put, newest-held, newest-put, newest-first, newest-moved}
+use borrow.Author.Needs.{needs}
+use Rattle.rising.proofs.room.cut.Statement.{statement}
+use Rattle.rising.proofs.room.cut.Tie as tie
+use Rattle.rising.proofs.room.cut.Reads as reads
+use Rattle.rising.proofs.room.cut.Lts as lts
+use Rattle.rising.proofs.run.drop_front.Reads as drop-front-reads
+use Rattle.rising.proofs.run.smaller.Reads as smaller-reads
+
+returns : tie.Need-returns
+returns c = search (needs, past-room)
+
+returns-2 : tie.Need-returns-2
+returns-2 c = search (needs, cut-none)
+
+sub-smaller : tie.Need-sub-smaller
+sub-smaller c = search needs
+
+smaller-requires : tie.Need-smaller-requires
+smaller-requires c κs = search needs
+
+mul-drop-front : tie.Need-mul-drop-front
+mul-drop-front c = search needs
+
+sub-drop-front : tie.Need-sub-drop-front
+sub-drop-front c = search needs
+
+part-drop-front-start : tie.Need-part-drop-front-start
+part-drop-front-start c = search needs
+
+part-drop-front-end : tie.Need-part-drop-front-end
+part-drop-front-end c = search needs
+
+drop-front-requires : tie.Need-drop-front-requires
+drop-front-requires c κs = search needs
+
+sub-result : tie.Need-sub-result
+sub-result c = search needs
+
+same-length : tie.Need-same-length
+same-length c = search needs
+
+returns-3 : tie.Need-returns-3
+returns-3 c = cut-some (c .before .before .before .before .before .before .before .before .args .i) (c .before .before .before .before .before .before .before .before .args .k) (c .before .before .before .before .before .before .before .before .args .count) (c .before .before .before .before .before .before .before .before .args .s .now) (c .before .before .before .before .before .before .if1 .left) (c .before .before .before .before .smaller .result) _ (c .before .before .before .before .before .if2 .left) (c .before .before .before .before .smaller .ensures) (ap (back (c .before .before .before .before .before .before .before .before .args .i) (c .before .before .before .before .before .before .before .before .args .count) (c .before .before .before .before .before .before .before .before .args .s .now)) (c .before .before .drop-front .ensures))
+
+pub cut-spec : {M : Type 1} → statement M
+cut-spec =
+    tie.close
+    (tie.spec
+    returns
+    returns-2
+    sub-smaller
+    smaller-requires
+    mul-drop-front
+    sub-drop-front
+    part-drop-front-start
+    part-drop-front-end
+    drop-front-requires
+    sub-result
+    same-length
+    returns-3)

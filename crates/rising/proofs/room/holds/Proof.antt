@@ -1,0 +1,32 @@
+-- `holds` meets its contract. Assumes nothing.
+use Prim.Native.Nat.{ℕ}
+use mathlib.Core.Path.{_≡_, sym, ap, _∙_}
+use mathlib.Core.List.{List}
+use native.Mathlib.Omega.{arith}
+use lib.ListN.{length, take}
+use lib.Seq.{length-take-le}
+use Rattle.sets.specs.Sets.{has}
+use Rattle.rising.proofs.Scans.{take-min}
+use borrow.Author.Needs.{needs}
+use Rattle.rising.proofs.room.holds.Statement.{statement}
+use Rattle.rising.proofs.room.holds.Tie as tie
+use Rattle.rising.proofs.room.holds.Reads as reads
+use Rattle.rising.proofs.room.holds.Lts as lts
+use Rattle.rising.proofs.run.contains.Reads as contains-reads
+use Rattle.rising.proofs.run.smaller.Reads as smaller-reads
+
+smaller-requires : tie.Need-smaller-requires
+smaller-requires c κs = search needs
+
+slice-aggregate-contains : tie.Need-slice-aggregate-contains
+slice-aggregate-contains c = sym (length-take-le (c .before .smaller .result) (c .before .before .before .args .s .now) (omega (arith, c .before .smaller .ensures)))
+
+contains-requires : tie.Need-contains-requires
+contains-requires c κs = search needs
+
+returns : tie.Need-returns
+returns c = c .contains .ensures ∙ ap (λ (l : List ℕ). has l (c .before .before .before .before .args .n)) (ap (λ (k : ℕ). take k (c .before .before .before .before .args .s .now)) (c .before .before .smaller .ensures) ∙ take-min (c .before .before .before .before .args .count) (c .before .before .before .before .args .s .now))
+
+pub holds-spec : {M : Type 1} → statement M
+holds-spec =
+    tie.close (tie.spec smaller-requires slice-aggregate-contains contains-requires returns)

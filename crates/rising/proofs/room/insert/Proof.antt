@@ -1,0 +1,79 @@
+-- `insert` meets its contract. Assumes nothing.
+use Prim.Native.Nat.{ℕ, _≤_, _<_, _+_, _-_}
+use mathlib.Core.Path.{_≡_, refl, sym, ap, _∙_}
+use mathlib.Core.List.{List}
+use native.Mathlib.Omega.{arith}
+use lib.ListN.{length, take, drop, set}
+use lib.Seq.{length-take-le}
+use Rattle.rising.specs.Runs.{removed, fromOn, before, cutOut}
+use Rattle.rising.proofs.Rooms.{past-room, changed, unchanged, as-well, back, cut-none, cut-some, open-done, put-done}
+use Rattle.rising.proofs.Inserts.{place-in, removed-held, removed-none, from-is, before-is, insert-held, insert-full, insert-put, newest-held, newest-put, newest-first, newest-moved}
+use borrow.Author.Needs.{needs}
+use Rattle.rising.proofs.room.insert.Statement.{statement}
+use Rattle.rising.proofs.room.insert.Tie as tie
+use Rattle.rising.proofs.room.insert.Reads as reads
+use Rattle.rising.proofs.room.insert.Lts as lts
+use Rattle.rising.proofs.room.put.Reads as put-reads
+use Rattle.rising.proofs.run.holds_at.Reads as holds-at-reads
+use Rattle.rising.proofs.run.place.Reads as place-reads
+
+returns : tie.Need-returns
+returns c = search (needs, past-room)
+
+slice-reshare-prefix-place : tie.Need-slice-reshare-prefix-place
+slice-reshare-prefix-place c = search needs
+
+slice-aggregate-place : tie.Need-slice-aggregate-place
+slice-aggregate-place c = sym (length-take-le (c .before .before .before .args .count) (c .before .before .before .args .s .now) (omega arith))
+
+place-requires : tie.Need-place-requires
+place-requires c κs = search needs
+
+slice-reshare-prefix-holds-at : tie.Need-slice-reshare-prefix-holds-at
+slice-reshare-prefix-holds-at c = search needs
+
+slice-aggregate-holds-at : tie.Need-slice-aggregate-holds-at
+slice-aggregate-holds-at c = sym (length-take-le (c .before .before .before .before .before .args .count) (c .before .before .before .before .before .args .s .now) (omega arith))
+
+holds-at-requires : tie.Need-holds-at-requires
+holds-at-requires c κs = search needs
+
+same-length : tie.Need-same-length
+same-length c = search needs
+
+returns-2 : tie.Need-returns-2
+returns-2 c = insert-held (c .before .before .before .before .before .before .before .args .count) (c .before .before .before .before .before .before .before .args .n) (c .before .before .before .place .result) (c .before .before .before .before .before .before .before .args .s .now) (c .before .before .before .before .before .if1 .left) (c .before .before .before .place .ensures) (c .before .holds-at .result) (c .before .holds-at .ensures) (c .if2 .taken)
+
+put-requires : tie.Need-put-requires
+put-requires c κs = (place-in (c .before .before .before .before .before .before .before .before .before .args .count) (c .before .before .before .before .before .before .before .before .before .args .n) (c .before .before .before .before .before .place .result) (c .before .before .before .before .before .before .before .before .before .args .s .now) (c .before .before .before .before .before .before .before .if1 .left) (c .before .before .before .before .before .place .ensures), search needs)
+
+same-length-2 : tie.Need-same-length-2
+same-length-2 c = search needs
+
+returns-3 : tie.Need-returns-3
+returns-3 c = insert-put (c .before .before .before .before .before .before .before .before .before .before .before .before .args .count) (c .before .before .before .before .before .before .before .before .before .before .before .before .args .n) (c .before .before .before .before .before .before .before .before .place .result) (c .before .before .before .before .before .before .before .before .before .before .before .before .args .s .now) (c .before .before .before .before .before .before .before .before .before .before .if1 .left) (c .before .before .before .before .before .before .before .before .place .ensures) (c .before .before .before .before .before .before .holds-at .result) (c .before .before .before .before .before .before .holds-at .ensures) (c .before .before .put .result) (c .before .before .put .last .0) (c .before .before .put .ensures) (c .before .before .before .before .before .if2 .left) (c .before .before .before .before .if3 .taken)
+
+same-length-3 : tie.Need-same-length-3
+same-length-3 c = search needs
+
+returns-4 : tie.Need-returns-4
+returns-4 c = insert-full (c .before .before .before .before .before .before .before .before .args .count) (c .before .before .before .before .before .before .before .before .args .n) (c .before .before .before .before .place .result) (c .before .before .before .before .before .before .before .before .args .s .now) (c .before .before .before .before .before .before .if1 .left) (c .before .before .before .before .place .ensures) (c .before .before .holds-at .result) (c .before .before .holds-at .ensures) (c .before .if2 .left) (omega arith)
+
+pub insert-spec : {M : Type 1} → statement M
+insert-spec =
+    tie.close
+    (tie.spec
+    returns
+    slice-reshare-prefix-place
+    slice-aggregate-place
+    place-requires
+    slice-reshare-prefix-holds-at
+    slice-aggregate-holds-at
+    holds-at-requires
+    same-length
+    returns-2
+    put-requires
+    same-length-2
+    returns-3
+    same-length-3
+    returns-4)

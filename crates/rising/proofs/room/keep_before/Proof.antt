@@ -1,0 +1,54 @@
+-- `keep_before` meets its contract. Assumes nothing.
+use Prim.Native.Nat.{ℕ, _≤_, _<_, _+_, _-_}
+use mathlib.Core.Path.{_≡_, refl, sym, ap, _∙_}
+use mathlib.Core.List.{List}
+use native.Mathlib.Omega.{arith}
+use lib.ListN.{length, take, drop, set}
+use lib.Seq.{length-take-le}
+use Rattle.rising.specs.Runs.{removed, fromOn, before, cutOut}
+use Rattle.rising.proofs.Rooms.{past-room, changed, unchanged, as-well, back, cut-none, cut-some, open-done, put-done}
+use Rattle.rising.proofs.Inserts.{place-in, removed-held, removed-none, from-is, before-is, insert-held, insert-full, insert-put, newest-held, newest-put, newest-first, newest-moved}
+use borrow.Author.Needs.{needs}
+use Rattle.rising.proofs.room.keep_before.Statement.{statement}
+use Rattle.rising.proofs.room.keep_before.Tie as tie
+use Rattle.rising.proofs.room.keep_before.Reads as reads
+use Rattle.rising.proofs.room.keep_before.Lts as lts
+use Rattle.rising.proofs.room.cut.Reads as cut-reads
+use Rattle.rising.proofs.run.place.Reads as place-reads
+
+returns : tie.Need-returns
+returns c = search (needs, past-room)
+
+slice-reshare-prefix-place : tie.Need-slice-reshare-prefix-place
+slice-reshare-prefix-place c = search needs
+
+slice-aggregate-place : tie.Need-slice-aggregate-place
+slice-aggregate-place c = sym (length-take-le (c .before .before .before .args .count) (c .before .before .before .args .s .now) (omega arith))
+
+place-requires : tie.Need-place-requires
+place-requires c κs = search needs
+
+sub-cut : tie.Need-sub-cut
+sub-cut c = place-in (c .before .before .before .before .before .args .count) (c .before .before .before .before .before .args .n) (c .before .place .result) (c .before .before .before .before .before .args .s .now) (c .before .before .before .if1 .left) (c .before .place .ensures)
+
+cut-requires : tie.Need-cut-requires
+cut-requires c κs = search needs
+
+same-length : tie.Need-same-length
+same-length c = search needs
+
+returns-2 : tie.Need-returns-2
+returns-2 c = as-well (before (c .before .before .before .before .before .before .before .before .args .n)) (c .before .before .before .before .before .before .before .before .args .count) (c .before .before .before .before .before .before .before .before .args .s .now) (c .before .before .before .before .before .before .if1 .left) (cutOut (c .before .before .before .before .place .result) (c .before .before .before .before .before .before .before .before .args .count - c .before .before .before .before .place .result)) (c .before .before .cut .result) (c .before .before .cut .last .0) (c .before .before .cut .ensures) (before-is (c .before .before .before .before .before .before .before .before .args .count) (c .before .before .before .before .before .before .before .before .args .n) (c .before .before .before .before .place .result) (c .before .before .before .before .before .before .before .before .args .s .now) (c .before .before .before .before .before .before .if1 .left) (c .before .before .before .before .place .ensures))
+
+pub keep-before-spec : {M : Type 1} → statement M
+keep-before-spec =
+    tie.close
+    (tie.spec
+    returns
+    slice-reshare-prefix-place
+    slice-aggregate-place
+    place-requires
+    sub-cut
+    cut-requires
+    same-length
+    returns-2)

@@ -1,0 +1,71 @@
+-- `remove` meets its contract. Assumes nothing.
+use Prim.Native.Nat.{ℕ, _≤_, _<_, _+_, _-_}
+use mathlib.Core.Path.{_≡_, refl, sym, ap, _∙_}
+use mathlib.Core.List.{List}
+use native.Mathlib.Omega.{arith}
+use lib.ListN.{length, take, drop, set}
+use lib.Seq.{length-take-le}
+use Rattle.rising.specs.Runs.{removed, fromOn, before, cutOut}
+use Rattle.rising.proofs.Rooms.{past-room, changed, unchanged, as-well, back, cut-none, cut-some, open-done, put-done}
+use Rattle.rising.proofs.Inserts.{place-in, removed-held, removed-none, from-is, before-is, insert-held, insert-full, insert-put, newest-held, newest-put, newest-first, newest-moved}
+use borrow.Author.Needs.{needs}
+use Rattle.rising.proofs.room.remove.Statement.{statement}
+use Rattle.rising.proofs.room.remove.Tie as tie
+use Rattle.rising.proofs.room.remove.Reads as reads
+use Rattle.rising.proofs.room.remove.Lts as lts
+use Rattle.rising.proofs.room.cut.Reads as cut-reads
+use Rattle.rising.proofs.run.holds_at.Reads as holds-at-reads
+use Rattle.rising.proofs.run.place.Reads as place-reads
+
+returns : tie.Need-returns
+returns c = search (needs, past-room)
+
+slice-reshare-prefix-place : tie.Need-slice-reshare-prefix-place
+slice-reshare-prefix-place c = search needs
+
+slice-aggregate-place : tie.Need-slice-aggregate-place
+slice-aggregate-place c = sym (length-take-le (c .before .before .before .args .count) (c .before .before .before .args .s .now) (omega arith))
+
+place-requires : tie.Need-place-requires
+place-requires c κs = search needs
+
+slice-reshare-prefix-holds-at : tie.Need-slice-reshare-prefix-holds-at
+slice-reshare-prefix-holds-at c = search needs
+
+slice-aggregate-holds-at : tie.Need-slice-aggregate-holds-at
+slice-aggregate-holds-at c = sym (length-take-le (c .before .before .before .before .before .args .count) (c .before .before .before .before .before .args .s .now) (omega arith))
+
+holds-at-requires : tie.Need-holds-at-requires
+holds-at-requires c κs = search needs
+
+cut-requires : tie.Need-cut-requires
+cut-requires c κs = search needs
+
+same-length : tie.Need-same-length
+same-length c = search needs
+
+returns-2 : tie.Need-returns-2
+returns-2 c = as-well (removed (c .before .before .before .before .before .before .before .before .before .before .before .args .n)) (c .before .before .before .before .before .before .before .before .before .before .before .args .count) (c .before .before .before .before .before .before .before .before .before .before .before .args .s .now) (c .before .before .before .before .before .before .before .before .before .if1 .left) (cutOut (c .before .before .before .before .before .before .before .place .result) 1) (c .before .before .cut .result) (c .before .before .cut .last .0) (c .before .before .cut .ensures) (removed-held (c .before .before .before .before .before .before .before .before .before .before .before .args .count) (c .before .before .before .before .before .before .before .before .before .before .before .args .n) (c .before .before .before .before .before .before .before .place .result) (c .before .before .before .before .before .before .before .before .before .before .before .args .s .now) (c .before .before .before .before .before .before .before .before .before .if1 .left) (c .before .before .before .before .before .before .before .place .ensures) (c .before .before .before .before .before .holds-at .result) (c .before .before .before .before .before .holds-at .ensures) (c .before .before .before .before .if2 .taken))
+
+same-length-2 : tie.Need-same-length-2
+same-length-2 c = search needs
+
+returns-3 : tie.Need-returns-3
+returns-3 c = removed-none (c .before .before .before .before .before .before .before .args .count) (c .before .before .before .before .before .before .before .args .n) (c .before .before .before .place .result) (c .before .before .before .before .before .before .before .args .s .now) (c .before .before .before .before .before .if1 .left) (c .before .before .before .place .ensures) (c .before .holds-at .result) (c .before .holds-at .ensures) (c .if2 .left)
+
+pub remove-spec : {M : Type 1} → statement M
+remove-spec =
+    tie.close
+    (tie.spec
+    returns
+    slice-reshare-prefix-place
+    slice-aggregate-place
+    place-requires
+    slice-reshare-prefix-holds-at
+    slice-aggregate-holds-at
+    holds-at-requires
+    cut-requires
+    same-length
+    returns-2
+    same-length-2
+    returns-3)

@@ -1,0 +1,4 @@
+-- The definitions of `rising`.
+pub mod Runs
+pub mod Turn
+pub mod Set

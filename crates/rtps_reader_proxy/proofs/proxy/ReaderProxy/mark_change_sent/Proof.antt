@@ -1,0 +1,60 @@
+-- `mark_change_sent` meets its contract. Assumes nothing.
+use Prim.Native.Nat.{ℕ, _≤_, _<_, _+_, _-_, max}
+use mathlib.Core.Path.{_≡_, refl, sym, ap, _∙_}
+use mathlib.Core.List.{List, [], _∷_}
+use mathlib.Core.Bool.{Bool, not, false}
+use native.Mathlib.Omega.{arith}
+use lib.ListN.{length, take}
+use Rattle.numbers.specs.Number.{rankOf, isSample}
+use Rattle.numbers.specs.Refusals.{row, rowsOf, answerOf}
+use lib.Seq.{length-take-le}
+use Rattle.rtps_reader_proxy.specs.Reader.{notified, markedSent, removedBefore}
+use Rattle.rtps_reader_proxy.proofs.UnsentCalls.{new-refused, new-done, unsent-refused, notify-done, mark-done, before-done, take-refused, take-in, take-done}
+use borrow.Author.Needs.{needs}
+use Rattle.rtps_reader_proxy.proofs.proxy.ReaderProxy.mark_change_sent.Statement.{
+  statement,
+}
+use Rattle.rtps_reader_proxy.proofs.proxy.ReaderProxy.mark_change_sent.Tie as tie
+use Rattle.rtps_reader_proxy.proofs.proxy.ReaderProxy.mark_change_sent.Reads as reads
+use Rattle.rtps_reader_proxy.proofs.proxy.ReaderProxy.mark_change_sent.Lts as lts
+use Rattle.numbers.proofs.sequence_number.SequenceNumber.rank.Reads as rank-reads
+use Rattle.rising.proofs.room.remove.Reads as remove-reads
+use Rattle.rtps_reader_proxy.proofs.proxy.ReaderProxy.check_unsent.Reads as check-unsent-reads
+use Rattle.rtps_reader_proxy.proofs.proxy.ReaderProxy.with_unsent.Reads as with-unsent-reads
+
+check-unsent-requires : tie.Need-check-unsent-requires
+check-unsent-requires c κs = search needs
+
+same-length : tie.Need-same-length
+same-length c = search needs
+
+returns : tie.Need-returns
+returns c = unsent-refused (c .before .before .before .before .before .args .self) (c .before .before .before .before .before .args .unsent .now) (row 2 false ∷ []) (c .before .before .check-unsent .result) (c .before .before .check-unsent .ensures) (markedSent (rankOf (c .before .before .before .before .before .args .n))) (c .if1 .taken)
+
+rank-requires : tie.Need-rank-requires
+rank-requires c κs = search needs
+
+remove-requires : tie.Need-remove-requires
+remove-requires c κs = search needs
+
+with-unsent-requires : tie.Need-with-unsent-requires
+with-unsent-requires c κs = search needs
+
+same-length-2 : tie.Need-same-length-2
+same-length-2 c = search needs
+
+returns-2 : tie.Need-returns-2
+returns-2 c = mark-done (c .before .before .before .before .before .before .before .before .before .before .before .args .self) (c .before .before .before .before .before .before .before .before .before .before .before .args .unsent .now) (row 2 false ∷ []) (c .before .before .before .before .before .before .before .before .check-unsent .result) (c .before .before .before .before .before .before .before .before .check-unsent .ensures) (c .before .before .before .before .before .before .if1 .left) (rankOf (c .before .before .before .before .before .before .before .before .before .before .before .args .n)) (c .before .before .before .remove .result) (c .before .before .before .remove .last .0) (c .with-unsent .result) (c .with-unsent .ensures) (rw (← c .before .before .before .before .rank .ensures .is) (c .before .before .before .remove .ensures))
+
+pub mark-change-sent-spec : {M : Type 1} → statement M
+mark-change-sent-spec =
+    tie.close
+    (tie.spec
+    check-unsent-requires
+    same-length
+    returns
+    rank-requires
+    remove-requires
+    with-unsent-requires
+    same-length-2
+    returns-2)

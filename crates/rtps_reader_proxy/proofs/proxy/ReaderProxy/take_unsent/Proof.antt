@@ -1,0 +1,75 @@
+-- `take_unsent` meets its contract. Assumes nothing.
+use Prim.Native.Nat.{ℕ, _≤_, _<_, _+_, _-_, max}
+use mathlib.Core.Path.{_≡_, refl, sym, ap, _∙_}
+use mathlib.Core.List.{List, [], _∷_}
+use mathlib.Core.Bool.{Bool, not, false}
+use native.Mathlib.Omega.{arith}
+use lib.ListN.{length, take}
+use Rattle.numbers.specs.Number.{rankOf, isSample}
+use Rattle.numbers.specs.Refusals.{row, rowsOf, answerOf}
+use lib.Seq.{length-take-le}
+use Rattle.rtps_reader_proxy.specs.Reader.{notified, markedSent, removedBefore}
+use Rattle.rtps_reader_proxy.proofs.UnsentCalls.{new-refused, new-done, unsent-refused, notify-done, mark-done, before-done, take-refused, take-in, take-done}
+use borrow.Author.Needs.{needs}
+use Rattle.rtps_reader_proxy.proofs.proxy.ReaderProxy.take_unsent.Statement.{statement}
+use Rattle.rtps_reader_proxy.proofs.proxy.ReaderProxy.take_unsent.Tie as tie
+use Rattle.rtps_reader_proxy.proofs.proxy.ReaderProxy.take_unsent.Reads as reads
+use Rattle.rtps_reader_proxy.proofs.proxy.ReaderProxy.take_unsent.Lts as lts
+use Rattle.rising.proofs.room.cut.Reads as cut-reads
+use Rattle.rising.proofs.run.copy.Reads as copy-reads
+use Rattle.rising.proofs.run.smaller.Reads as smaller-reads
+use Rattle.rtps_reader_proxy.proofs.proxy.ReaderProxy.check_unsent.Reads as check-unsent-reads
+use Rattle.rtps_reader_proxy.proofs.proxy.ReaderProxy.with_unsent.Reads as with-unsent-reads
+
+check-unsent-requires : tie.Need-check-unsent-requires
+check-unsent-requires c κs = search needs
+
+same-length : tie.Need-same-length
+same-length c = search needs
+
+returns : tie.Need-returns
+returns c = take-refused (c .before .before .before .before .before .before .args .self) (c .before .before .before .before .before .before .args .unsent .now) (c .before .before .before .before .before .before .args .out .now) (c .before .before .check-unsent .result) (c .before .before .check-unsent .ensures) (c .if1 .taken)
+
+smaller-requires : tie.Need-smaller-requires
+smaller-requires c κs = search needs
+
+slice-reshare-prefix-copy : tie.Need-slice-reshare-prefix-copy
+slice-reshare-prefix-copy c = take-in (c .before .before .before .before .before .before .before .args .self) (c .before .before .before .before .before .before .before .args .unsent .now) (c .before .before .before .before .before .before .before .args .out .now) (c .before .before .before .check-unsent .result) (c .before .before .before .check-unsent .ensures) (c .before .if1 .left) (c .smaller .result) (c .smaller .ensures)
+
+slice-aggregate-copy : tie.Need-slice-aggregate-copy
+slice-aggregate-copy c = sym (length-take-le (c .before .smaller .result) (c .before .before .before .before .before .before .before .before .args .unsent .now) (take-in (c .before .before .before .before .before .before .before .before .args .self) (c .before .before .before .before .before .before .before .before .args .unsent .now) (c .before .before .before .before .before .before .before .before .args .out .now) (c .before .before .before .before .check-unsent .result) (c .before .before .before .before .check-unsent .ensures) (c .before .before .if1 .left) (c .before .smaller .result) (c .before .smaller .ensures)))
+
+copy-requires : tie.Need-copy-requires
+copy-requires c κs = search needs
+
+cut-requires : tie.Need-cut-requires
+cut-requires c κs = search needs
+
+with-unsent-requires : tie.Need-with-unsent-requires
+with-unsent-requires c κs = search needs
+
+same-length-2 : tie.Need-same-length-2
+same-length-2 c = search needs
+
+same-length-3 : tie.Need-same-length-3
+same-length-3 c = search needs
+
+returns-2 : tie.Need-returns-2
+returns-2 c = take-done (c .before .before .before .before .before .before .before .before .before .before .before .before .before .before .before .before .before .args .self) (c .before .before .before .before .before .before .before .before .before .before .before .before .before .before .before .before .before .args .unsent .now) (c .before .before .before .before .before .before .before .before .before .before .before .before .before .before .before .before .before .args .out .now) (c .before .before .before .before .before .before .before .before .before .before .before .before .before .check-unsent .result) (c .before .before .before .before .before .before .before .before .before .before .before .before .before .check-unsent .ensures) (c .before .before .before .before .before .before .before .before .before .before .before .if1 .left) (c .before .before .before .before .before .before .before .before .before .before .smaller .result) (c .before .before .before .cut .result) (c .before .before .before .cut .last .0) (c .before .before .before .before .before .before .before .copy .last .1 .0) (c .with-unsent .result) (c .before .before .before .before .before .before .before .before .before .before .smaller .ensures) (c .before .before .before .before .before .before .before .copy .ensures) (c .before .before .before .cut .ensures) (c .with-unsent .ensures)
+
+pub take-unsent-spec : {M : Type 1} → statement M
+take-unsent-spec =
+    tie.close
+    (tie.spec
+    check-unsent-requires
+    same-length
+    returns
+    smaller-requires
+    slice-reshare-prefix-copy
+    slice-aggregate-copy
+    copy-requires
+    cut-requires
+    with-unsent-requires
+    same-length-2
+    same-length-3
+    returns-2)

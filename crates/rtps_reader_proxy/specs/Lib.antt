@@ -1,0 +1,5 @@
+-- The definitions of `rtps_reader_proxy`.
+pub mod Reader
+pub mod Record
+pub mod Unsent
+pub mod Gaps

@@ -1,0 +1,116 @@
+// The pending gap: a prefix from 1 on, and single members above it.
+ghost use mathlib.Core.Path.{_≡_};
+ghost use mathlib.Core.List.{[], _∷_};
+ghost use mathlib.Core.Bool.{not, _||_};
+ghost use Prim.Native.Nat.{max};
+ghost use Rattle.numbers.specs.Number.{rankOf};
+ghost use Rattle.numbers.specs.Promise.{Gives1};
+ghost use Rattle.numbers.specs.Refusals.{row, rowsOf, answerOf};
+ghost use Rattle.rtps_reader_proxy.specs.Reader.{needsRoom};
+ghost use Rattle.rtps_reader_proxy.specs.Record.{gapsOk};
+ghost use Rattle.rtps_reader_proxy.specs.Gaps.{byGaps, beyond, gapInsertedOf, gapUpToOf, countGaps};
+use crate::proxy::Changed;
+use crate::proxy::ReaderProxy;
+use numbers::Answer;
+use numbers::Rows;
+use numbers::SequenceNumber;
+use rising::room;
+
+fn larger(a: u64, b: u64) -> u64
+    ensures { λ r. ⌜ r ≡ max a b ⌝ }
+{
+    if a < b { b } else { a }
+}
+
+// Whether n is above `last`, or `last` is no last number.
+fn is_beyond(n: SequenceNumber, last: SequenceNumber) -> bool
+    ensures { λ r. ⌜ r ≡ beyond n last ⌝ }
+{
+    let good = last.within(9223372036854775806);
+    let most = last.rank();
+    let k = n.rank();
+    !good | (most < k)
+}
+
+impl ReaderProxy {
+    // The answer of a call that is lent the gap room: 1, 2, 9 or done.
+    fn check_gaps(self, gaps: &[u64], range: bool, full: bool) -> Answer
+        ensures { λ r. ⌜ r ≡ answerOf (rowsOf (row 1 (not (gapsOk self (now (gaps .entry)))) ∷ row 2 range ∷ row 9 full ∷ [])) ⌝ }
+    {
+        let mut rows = Rows::none();
+        rows.incoherent = !self.gaps_ok(gaps);
+        rows.range = range;
+        rows.gaps_full = full;
+        Answer::of(rows)
+    }
+
+    // Whether a gap member takes room: it is above the prefix end, not below acked, and not held.
+    fn needs_room(self, gaps: &[u64], n: u64) -> bool
+        ensures { λ r. ⌜ r ≡ needsRoom n (byGaps self (now (gaps .entry))) ⌝ }
+    {
+        let prefix = self.gap_prefix_end.rank();
+        let acked = self.all_acked_before.rank();
+        let held = room::holds(gaps, self.gap_count, n);
+        (prefix < n) & ((acked <= n) & !held)
+    }
+
+    fn with_gaps(mut self, prefix: u64, count: usize) -> ReaderProxy
+        ensures { λ r. ⌜ r ≡ countGaps prefix count self ⌝ }
+    {
+        self.gap_prefix_end = SequenceNumber::from_rank(prefix);
+        self.gap_count = count;
+        self
+    }
+
+    // A sample that this reader is not to get.
+    pub fn insert_pending_gap(
+        self,
+        gaps: &mut [u64],
+        n: SequenceNumber,
+        last: SequenceNumber,
+    ) -> Changed
+        ensures { λ r. ⌜ Gives1 r (now (gaps .exit)) (gapInsertedOf n last self (now (gaps .entry))) ⌝ }
+    {
+        let needs = self.needs_room(gaps, n.rank());
+        let range = !n.is_sample() | is_beyond(n, last);
+        let answer = self.check_gaps(gaps, range, (256 <= self.gap_count) & needs);
+        if answer.number != 0 {
+            return Changed {
+                answer,
+                proxy: self,
+            };
+        }
+        if !needs {
+            return Changed {
+                answer,
+                proxy: self,
+            };
+        }
+        let count = room::insert(gaps, self.gap_count, n.rank());
+        let proxy = self.with_gaps(self.gap_prefix_end.rank(), count);
+        Changed { answer, proxy }
+    }
+
+    // All samples from 1 through e are not for this reader.
+    pub fn set_pending_gap_up_to(
+        self,
+        gaps: &mut [u64],
+        e: SequenceNumber,
+        last: SequenceNumber,
+    ) -> Changed
+        ensures { λ r. ⌜ Gives1 r (now (gaps .exit)) (gapUpToOf e last self (now (gaps .entry))) ⌝ }
+    {
+        let range = e.is_negative() | is_beyond(e, last);
+        let answer = self.check_gaps(gaps, range, false);
+        if answer.number != 0 {
+            return Changed {
+                answer,
+                proxy: self,
+            };
+        }
+        let end = e.rank();
+        let count = room::keep_from(gaps, self.gap_count, end + 1);
+        let proxy = self.with_gaps(larger(self.gap_prefix_end.rank(), end), count);
+        Changed { answer, proxy }
+    }
+}

@@ -1,0 +1,6 @@
+// One reader as the writer keeps it: a small head by value, its rooms lent.
+pub mod gaps;
+pub mod proxy;
+pub mod unsent;
+
+pub use proxy::ReaderProxy;

@@ -1,0 +1,111 @@
+// The unsent numbers: new samples join, sent ones go.
+ghost use mathlib.Core.Path.{_≡_};
+ghost use mathlib.Core.List.{[], _∷_};
+ghost use mathlib.Core.Bool.{not};
+ghost use Rattle.numbers.specs.Promise.{Gives1, Gives2};
+ghost use Rattle.numbers.specs.Refusals.{row, rowsOf, answerOf};
+ghost use Rattle.rtps_reader_proxy.specs.Record.{unsentOk};
+ghost use Rattle.rtps_reader_proxy.specs.Unsent.{notifiedOf, markedSentOf, removedBeforeOf, takenOf, countUnsent};
+use crate::proxy::Changed;
+use crate::proxy::ReaderProxy;
+use numbers::Answer;
+use numbers::Rows;
+use numbers::SequenceNumber;
+use rising::room;
+use rising::run;
+
+#[repr(C)]
+pub struct Taken {
+    pub answer: Answer,
+    pub count: usize,
+    pub proxy: ReaderProxy,
+}
+
+impl ReaderProxy {
+    // The answer of a call that is lent the unsent room: 1, 2 or done.
+    fn check_unsent(self, unsent: &[u64], range: bool) -> Answer
+        ensures { λ r. ⌜ r ≡ answerOf (rowsOf (row 1 (not (unsentOk self (now (unsent .entry)))) ∷ row 2 range ∷ [])) ⌝ }
+    {
+        let mut rows = Rows::none();
+        rows.incoherent = !self.unsent_ok(unsent);
+        rows.range = range;
+        Answer::of(rows)
+    }
+
+    fn with_unsent(mut self, count: usize) -> ReaderProxy
+        ensures { λ r. ⌜ r ≡ countUnsent count self ⌝ }
+    {
+        self.unsent_count = count;
+        self
+    }
+
+    // A new sample: its number joins the unsent numbers; above the cap the smallest go.
+    pub fn notify_new_cache_change(self, unsent: &mut [u64], n: SequenceNumber) -> Changed
+        ensures { λ r. ⌜ Gives1 r (now (unsent .exit)) (notifiedOf n self (now (unsent .entry))) ⌝ }
+    {
+        let answer = self.check_unsent(unsent, !n.is_sample());
+        if answer.number != 0 {
+            return Changed {
+                answer,
+                proxy: self,
+            };
+        }
+        let count = room::insert_newest(unsent, self.unsent_count, n.rank());
+        let proxy = self.with_unsent(count);
+        Changed { answer, proxy }
+    }
+
+    // A number was sent, as data or as a gap.
+    pub fn mark_change_sent(self, unsent: &mut [u64], n: SequenceNumber) -> Changed
+        ensures { λ r. ⌜ Gives1 r (now (unsent .exit)) (markedSentOf n self (now (unsent .entry))) ⌝ }
+    {
+        let answer = self.check_unsent(unsent, false);
+        if answer.number != 0 {
+            return Changed {
+                answer,
+                proxy: self,
+            };
+        }
+        let count = room::remove(unsent, self.unsent_count, n.rank());
+        let proxy = self.with_unsent(count);
+        Changed { answer, proxy }
+    }
+
+    pub fn remove_from_unsent_set_all_before(self, unsent: &mut [u64], n: SequenceNumber) -> Changed
+        ensures { λ r. ⌜ Gives1 r (now (unsent .exit)) (removedBeforeOf n self (now (unsent .entry))) ⌝ }
+    {
+        let answer = self.check_unsent(unsent, false);
+        if answer.number != 0 {
+            return Changed {
+                answer,
+                proxy: self,
+            };
+        }
+        let count = room::keep_from(unsent, self.unsent_count, n.rank());
+        let proxy = self.with_unsent(count);
+        Changed { answer, proxy }
+    }
+
+    // The first unsent numbers, as many as `out` has room for, are taken and marked sent.
+    pub fn take_unsent(self, unsent: &mut [u64], out: &mut [u64]) -> Taken
+        ensures { λ r. ⌜ Gives2 r (now (unsent .exit)) (now (out .exit)) (takenOf self (now (unsent .entry)) (now (out .entry))) ⌝ }
+    {
+        let answer = self.check_unsent(unsent, false);
+        if answer.number != 0 {
+            return Taken {
+                answer,
+                count: 0,
+                proxy: self,
+            };
+        }
+        let count = run::smaller(self.unsent_count, out.len());
+        run::copy(&unsent[..count], out);
+        let left = room::cut(unsent, self.unsent_count, 0, count);
+        let proxy = self.with_unsent(left);
+        Taken {
+            answer,
+            count,
+            proxy,
+        }
+    }
+}

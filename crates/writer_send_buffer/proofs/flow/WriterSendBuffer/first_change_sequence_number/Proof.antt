@@ -1,0 +1,35 @@
+-- `first_change_sequence_number` meets its contract. Assumes nothing.
+use Prim.Native.Nat.{_+_}
+use mathlib.Core.Path.{refl, ap}
+use mathlib.Core.Bool.{Bool, false}
+use lib.Dec.{ltb}
+use Rattle.numbers.specs.Number.{rankOf}
+use Rattle.numbers.specs.Refusals.{done}
+use Rattle.writer_send_buffer.specs.Flow.{room}
+use Rattle.writer_send_buffer.specs.Buffer.{noNumber}
+use Rattle.writer_send_buffer.proofs.Calls.{is-0, refused, finished}
+use borrow.Author.Needs.{needs}
+use Rattle.writer_send_buffer.proofs.flow.WriterSendBuffer.first_change_sequence_number.Statement.{
+  statement,
+}
+use Rattle.writer_send_buffer.proofs.flow.WriterSendBuffer.first_change_sequence_number.Tie as tie
+
+is-coherent-requires : tie.Need-is-coherent-requires
+is-coherent-requires c κs = search needs
+
+range-answer-requires : tie.Need-range-answer-requires
+range-answer-requires c κs = search needs
+
+from-rank-requires : tie.Need-from-rank-requires
+from-rank-requires c κs = search needs
+
+returns : tie.Need-returns
+returns c = rw (c .from-rank .ensures) (refused (c .before .before .before .before .before .args .self) (c .before .before .before .before .is-coherent .result) (false) (false) (c .before .before .before .before .is-coherent .ensures) (refl) (c .before .before .before .range-answer .result) (c .before .before .before .range-answer .ensures) (noNumber) (record { answer = done; number = c .before .before .before .before .before .args .self .first }) (c .before .if1 .taken))
+
+returns-2 : tie.Need-returns-2
+returns-2 c = rw (is-0 (c .before .before .before .range-answer .result) (c .before .if1 .left)) (finished (c .before .before .before .before .before .args .self) (c .before .before .before .before .is-coherent .result) (false) (false) (c .before .before .before .before .is-coherent .ensures) (refl) (c .before .before .before .range-answer .result) (c .before .before .before .range-answer .ensures) (noNumber) (record { answer = done; number = c .before .before .before .before .before .args .self .first }) (c .before .if1 .left))
+
+pub first-change-sequence-number-spec : {M : Type 1} → statement M
+first-change-sequence-number-spec =
+    tie.close
+    (tie.spec is-coherent-requires range-answer-requires from-rank-requires returns returns-2)

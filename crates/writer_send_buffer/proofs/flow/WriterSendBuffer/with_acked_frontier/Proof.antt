@@ -1,0 +1,69 @@
+-- `with_acked_frontier` meets its contract. Assumes nothing.
+use Prim.Native.Nat.{_+_}
+use mathlib.Core.Path.{sym, ap, _∙_}
+use lib.Dec.{ltb}
+use Rattle.writer_send_buffer.specs.Flow.{ahead}
+use Rattle.writer_send_buffer.specs.Buffer.{view, toldNo, woken, frontierOf}
+use Rattle.writer_send_buffer.proofs.Calls.{is-0, refused, finished, storedIn, none-stored, one-stored}
+use borrow.Author.Needs.{needs}
+use Rattle.writer_send_buffer.proofs.flow.WriterSendBuffer.with_acked_frontier.Statement.{
+  statement,
+}
+use Rattle.writer_send_buffer.proofs.flow.WriterSendBuffer.with_acked_frontier.Tie as tie
+
+rank-requires : tie.Need-rank-requires
+rank-requires c κs = search needs
+
+rank-requires-2 : tie.Need-rank-requires-2
+rank-requires-2 c κs = search needs
+
+rank-requires-3 : tie.Need-rank-requires-3
+rank-requires-3 c κs = search needs
+
+is-coherent-requires : tie.Need-is-coherent-requires
+is-coherent-requires c κs = search needs
+
+add-range-answer : tie.Need-add-range-answer
+add-range-answer c = search needs
+
+range-answer-requires : tie.Need-range-answer-requires
+range-answer-requires c κs = search needs
+
+returns : tie.Need-returns
+returns c = ap woken (refused (c .before .before .before .before .before .before .before .args .self) (c .before .before .before .is-coherent .result) (ltb (c .before .before .before .before .before .rank2 .result + 1) (c .before .before .before .before .before .before .rank .result)) (ahead (frontierOf (c .before .before .before .before .before .before .before .args .frontier)) (view (c .before .before .before .before .before .before .before .args .self))) (c .before .before .before .is-coherent .ensures) (λ i. ltb (c .before .before .before .before .before .rank2 .ensures .is i + 1) (c .before .before .before .before .before .before .rank .ensures i)) (c .before .before .range-answer .result) (c .before .before .range-answer .ensures) (λ no. record { result = toldNo no; first = c .before .before .before .before .before .before .before .args .self }) (storedIn (frontierOf (c .before .before .before .before .before .before .before .args .frontier)) (view (c .before .before .before .before .before .before .before .args .self))) (c .if1 .taken))
+
+rank-requires-4 : tie.Need-rank-requires-4
+rank-requires-4 c κs = search needs
+
+rank-requires-5 : tie.Need-rank-requires-5
+rank-requires-5 c κs = search needs
+
+formed-requires : tie.Need-formed-requires
+formed-requires c κs = search needs
+
+returns-2 : tie.Need-returns-2
+returns-2 c = rw (is-0 (c .before .before .before .before .before .before .before .before .range-answer .result) (c .before .before .before .before .before .before .if1 .left), c .formed .ensures, c .before .before .rank5 .ensures .is, c .before .before .before .rank4 .ensures .is, c .before .before .before .before .before .before .before .before .before .before .rank3 .ensures .is, c .before .before .before .before .before .before .before .before .before .before .before .rank2 .ensures .is) (ap woken (none-stored (frontierOf (c .before .before .before .before .before .before .before .before .before .before .before .before .before .args .frontier)) (view (c .before .before .before .before .before .before .before .before .before .before .before .before .before .args .self)) (sym (c .before .before .before .before .before .before .before .before .before .before .before .before .rank .ensures) ∙ c .before .if2 .taken) ∙ finished (c .before .before .before .before .before .before .before .before .before .before .before .before .before .args .self) (c .before .before .before .before .before .before .before .before .before .is-coherent .result) (ltb (c .before .before .before .before .before .before .before .before .before .before .before .rank2 .result + 1) (c .before .before .before .before .before .before .before .before .before .before .before .before .rank .result)) (ahead (frontierOf (c .before .before .before .before .before .before .before .before .before .before .before .before .before .args .frontier)) (view (c .before .before .before .before .before .before .before .before .before .before .before .before .before .args .self))) (c .before .before .before .before .before .before .before .before .before .is-coherent .ensures) (λ i. ltb (c .before .before .before .before .before .before .before .before .before .before .before .rank2 .ensures .is i + 1) (c .before .before .before .before .before .before .before .before .before .before .before .before .rank .ensures i)) (c .before .before .before .before .before .before .before .before .range-answer .result) (c .before .before .before .before .before .before .before .before .range-answer .ensures) (λ no. record { result = toldNo no; first = c .before .before .before .before .before .before .before .before .before .before .before .before .before .args .self }) (storedIn (frontierOf (c .before .before .before .before .before .before .before .before .before .before .before .before .before .args .frontier)) (view (c .before .before .before .before .before .before .before .before .before .before .before .before .before .args .self))) (c .before .before .before .before .before .before .if1 .left)))
+
+formed-requires-2 : tie.Need-formed-requires-2
+formed-requires-2 c κs = search needs
+
+returns-3 : tie.Need-returns-3
+returns-3 c = rw (is-0 (c .before .before .before .before .before .before .before .before .range-answer .result) (c .before .before .before .before .before .before .if1 .left), c .formed2 .ensures, c .before .before .rank5 .ensures .is, c .before .before .before .rank4 .ensures .is, c .before .before .before .before .before .before .before .before .before .before .rank3 .ensures .is, c .before .before .before .before .before .before .before .before .before .before .before .rank2 .ensures .is, c .before .before .before .before .before .before .before .before .before .before .before .before .rank .ensures) (ap woken (one-stored (frontierOf (c .before .before .before .before .before .before .before .before .before .before .before .before .before .args .frontier)) (view (c .before .before .before .before .before .before .before .before .before .before .before .before .before .args .self)) (λ e. c .before .if2 .left (c .before .before .before .before .before .before .before .before .before .before .before .before .rank .ensures ∙ e)) ∙ finished (c .before .before .before .before .before .before .before .before .before .before .before .before .before .args .self) (c .before .before .before .before .before .before .before .before .before .is-coherent .result) (ltb (c .before .before .before .before .before .before .before .before .before .before .before .rank2 .result + 1) (c .before .before .before .before .before .before .before .before .before .before .before .before .rank .result)) (ahead (frontierOf (c .before .before .before .before .before .before .before .before .before .before .before .before .before .args .frontier)) (view (c .before .before .before .before .before .before .before .before .before .before .before .before .before .args .self))) (c .before .before .before .before .before .before .before .before .before .is-coherent .ensures) (λ i. ltb (c .before .before .before .before .before .before .before .before .before .before .before .rank2 .ensures .is i + 1) (c .before .before .before .before .before .before .before .before .before .before .before .before .rank .ensures i)) (c .before .before .before .before .before .before .before .before .range-answer .result) (c .before .before .before .before .before .before .before .before .range-answer .ensures) (λ no. record { result = toldNo no; first = c .before .before .before .before .before .before .before .before .before .before .before .before .before .args .self }) (storedIn (frontierOf (c .before .before .before .before .before .before .before .before .before .before .before .before .before .args .frontier)) (view (c .before .before .before .before .before .before .before .before .before .before .before .before .before .args .self))) (c .before .before .before .before .before .before .if1 .left)))
+
+pub with-acked-frontier-spec : {M : Type 1} → statement M
+with-acked-frontier-spec =
+    tie.close
+    (tie.spec
+    rank-requires
+    rank-requires-2
+    rank-requires-3
+    is-coherent-requires
+    add-range-answer
+    range-answer-requires
+    returns
+    rank-requires-4
+    rank-requires-5
+    formed-requires
+    returns-2
+    formed-requires-2
+    returns-3)

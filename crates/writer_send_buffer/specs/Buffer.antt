@@ -1,0 +1,145 @@
+-- The flow record as it is declared, and what each call on it leaves. Assumes nothing.
+use Prim.Native.Nat.{ℕ, _+_, max}
+use mathlib.Core.Bool.{Bool, true, false, not, cond, _&&_}
+use lib.Dec.{ltb}
+use Rattle.numbers.specs.Number.{rankOf, negative, numberAt}
+use Rattle.numbers.specs.Refusals.{unless, done}
+use Rattle.numbers.specs.Promise.{Left1}
+use Rattle.numbers.specs.declared.answer.Answer.{Answer}
+use Rattle.numbers.specs.declared.answer.Rows.{Rows}
+use Rattle.numbers.specs.declared.sequence_number.SequenceNumber.{SequenceNumber}
+use Rattle.writer_send_buffer.specs.declared.limits.Kind.{Kind}
+use Rattle.writer_send_buffer.specs.declared.limits.Limits.{Limits}
+use Rattle.writer_send_buffer.specs.declared.flow.WriterSendBuffer.{WriterSendBuffer}
+use Rattle.writer_send_buffer.specs.declared.flow.Told.{Told}
+use Rattle.writer_send_buffer.specs.declared.flow.Numbered.{Numbered}
+use Rattle.writer_send_buffer.specs.declared.flow.Moved.{Moved}
+use Rattle.writer_send_buffer.specs.declared.frontiers.AckedFrontier.{AckedFrontier}
+use Rattle.writer_send_buffer.specs.declared.frontiers.Woken.{Woken}
+use Rattle.writer_send_buffer.specs.Flow.{Flow, allowed, counted, fits, blank, room, ahead, stored, wakes, raised, ackedThrough, evicted}
+
+-- the record on natural numbers, and back
+abbrev pub view : WriterSendBuffer → Flow
+view f = record { last = rankOf (f .last); first = rankOf (f .first); sent = rankOf (f .sent); acked = rankOf (f .acked); present = f .present; kind = f .kind; limits = f .limits }
+
+abbrev pub form : Flow → WriterSendBuffer
+form f = record { last = numberAt (f .last); first = numberAt (f .first); sent = numberAt (f .sent); acked = numberAt (f .acked); present = f .present; kind = f .kind; limits = f .limits }
+
+-- no number that is to be at least 0 is below it, and the natural numbers fit each other
+abbrev pub isCoherent : WriterSendBuffer → Bool
+isCoherent f = not (negative (f .last)) && (not (negative (f .sent)) && fits (view f))
+
+-- THE ROWS
+
+abbrev pub limited : Bool → Rows
+limited limit =
+    record {
+      limit = limit;
+      incoherent = false;
+      bits = false;
+      range = false;
+      reader = false;
+      ahead = false;
+      payload = false;
+      «used_up» = false;
+      «would_block» = false;
+      «store_full» = false;
+      «readers_full» = false;
+      «gaps_full» = false;
+      «frags_full» = false;
+      nothing = false;
+    }
+
+abbrev pub ranged : Bool → Bool → Rows
+ranged coherent range =
+    record {
+      limit = false;
+      incoherent = not coherent;
+      bits = false;
+      range = range;
+      reader = false;
+      ahead = false;
+      payload = false;
+      «used_up» = false;
+      «would_block» = false;
+      «store_full» = false;
+      «readers_full» = false;
+      «gaps_full» = false;
+      «frags_full» = false;
+      nothing = false;
+    }
+
+-- A NEW WRITER
+
+-- a refusal's: all zeros
+abbrev pub zeroed : WriterSendBuffer
+zeroed =
+    form
+    (record {
+      last = 0;
+      first = 0;
+      sent = 0;
+      acked = 0;
+      present = false;
+      kind = record { reliable = false; builtin = false; volatile = false };
+      limits = record { window = 0; backlog = 0; retain = 0; slots = 0; «slot_bytes» = 0 };
+    })
+
+-- "13: capacity or limit not allowed"
+abbrev pub newOf : Kind → Limits → Moved
+newOf k l = unless (limited (not (allowed (counted l)))) (λ a. record { answer = a; flow = zeroed }) (record { answer = done; flow = form (blank k (counted l)) })
+
+-- QUESTIONS
+
+abbrev pub questioned : {A : Type 0} → WriterSendBuffer → (Answer → A) → A → A
+questioned f refused d = unless (ranged (isCoherent f) false) refused d
+
+abbrev pub toldNo : Answer → Told
+toldNo a = record { answer = a; yes = false }
+
+abbrev pub noNumber : Answer → Numbered
+noNumber a = record { answer = a; number = numberAt 0 }
+
+abbrev pub roomOf : WriterSendBuffer → Bool → Told
+roomOf f opted = questioned f toldNo (record { answer = done; yes = room (view f) opted })
+
+abbrev pub throughOf : WriterSendBuffer → SequenceNumber → Told
+throughOf f t = questioned f toldNo (record { answer = done; yes = ackedThrough (rankOf t) (view f) })
+
+abbrev pub firstOf : WriterSendBuffer → Numbered
+firstOf f = questioned f noNumber (record { answer = done; number = f .first })
+
+abbrev pub lastOf : WriterSendBuffer → Numbered
+lastOf f = questioned f noNumber (record { answer = done; number = f .last })
+
+-- FRONTIERS AND EVICTION
+
+-- "raised to 1 at least"; 0 stands for an absent one
+abbrev pub frontierOf : AckedFrontier → ℕ
+frontierOf a = cond (a .present) (max 1 (rankOf (a .acked))) 0
+
+abbrev pub ackedOf : WriterSendBuffer → AckedFrontier → Left1 Told WriterSendBuffer
+ackedOf f a =
+    unless (ranged (isCoherent f) (ahead (frontierOf a) (view f)))
+    (λ no. record { result = toldNo no; first = f })
+    (record { result = record { answer = done; yes = wakes (frontierOf a) (view f) }; first = form (stored (frontierOf a) (view f)) })
+
+-- "so is a sent frontier above last"
+abbrev pub sentOf : WriterSendBuffer → SequenceNumber → Left1 Told WriterSendBuffer
+sentOf f n =
+    unless (ranged (isCoherent f) (ltb (rankOf (f .last)) (rankOf n)))
+    (λ no. record { result = toldNo no; first = f })
+    (record { result = record { answer = done; yes = ltb (rankOf (f .sent)) (rankOf n) }; first = form (raised (rankOf n) (view f)) })
+
+abbrev pub evictOf : WriterSendBuffer → SequenceNumber → Left1 Answer WriterSendBuffer
+evictOf f n =
+    unless (ranged (isCoherent f) (ahead (rankOf n) (view f)))
+    (λ no. record { result = no; first = f })
+    (record { result = done; first = form (evicted (rankOf n) (view f)) })
+
+-- the same, as the structs that the by-value calls return
+abbrev pub woken : Left1 Told WriterSendBuffer → Woken
+woken o = record { told = o .result; flow = o .first }
+
+abbrev pub moved : Left1 Answer WriterSendBuffer → Moved
+moved o = record { answer = o .result; flow = o .first }

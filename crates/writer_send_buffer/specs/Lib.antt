@@ -1,0 +1,3 @@
+-- The definitions of `writer_send_buffer`.
+pub mod Flow
+pub mod Buffer

@@ -1,0 +1,11 @@
+// A writer's send buffer: the flow record and admission, and the retained samples in a lent store.
+pub mod flow;
+pub mod frontiers;
+pub mod limits;
+
+pub use flow::Moved;
+pub use flow::Numbered;
+pub use flow::Told;
+pub use flow::WriterSendBuffer;
+pub use limits::Kind;
+pub use limits::Limits;

@@ -1,0 +1,145 @@
+//! Short sequences, all of them, beside the crate.
+
+use model::{FragmentSet, Kind, Limits, NumberSet};
+use runs::{
+    calls::{ReaderCall, Way, WriterCall},
+    exhaustive,
+    model_subject::Model,
+};
+
+fn ack(base: i64, members: &[i64], last: i64) -> ReaderCall {
+    let set = NumberSet::of(base, members).unwrap();
+    ReaderCall::Ack { set, last }
+}
+
+fn ask(sample: i64, base: u32, members: &[u32]) -> ReaderCall {
+    let set = FragmentSet::of(base, members).unwrap();
+    ReaderCall::Request { sample, set }
+}
+
+fn frag_sent(sample: i64, fragment: u32) -> ReaderCall {
+    ReaderCall::FragSent { sample, fragment }
+}
+
+/// Caps where they may be chosen; the built-in one where it is fixed.
+fn caps() -> Vec<usize> {
+    oracle::fixed_cap().map_or(vec![1, 2, 3], |cap| vec![cap])
+}
+
+#[test]
+fn acknowledgements_and_new_numbers() {
+    let alphabet = [
+        ack(0, &[], 2),
+        ack(1, &[1, 2], 2),
+        ack(2, &[2, 3], 3),
+        ack(2, &[3, 5], 2),
+        ack(3, &[], 2),
+        ack(4, &[4], 2),
+        ReaderCall::Notify { number: 1 },
+        ReaderCall::Notify { number: 2 },
+        ReaderCall::Notify { number: 4 },
+        ReaderCall::MarkSent { number: 2 },
+        ReaderCall::RemoveBefore { number: 2 },
+    ];
+    for cap in caps() {
+        let compared = exhaustive::readers(&Model, cap, &alphabet, 5).unwrap();
+        println!("cap {}: {} calls", cap, compared);
+        assert!(compared > 100_000);
+    }
+}
+
+#[test]
+fn gaps() {
+    let gap = |number| ReaderCall::Gap { number, last: 4 };
+    let up_to = |end| ReaderCall::GapUpTo { end, last: 4 };
+    let alphabet = [
+        gap(1),
+        gap(2),
+        gap(4),
+        up_to(0),
+        up_to(1),
+        up_to(3),
+        ack(2, &[], 4),
+        ack(3, &[3], 4),
+        ack(5, &[], 4),
+    ];
+    let cap = caps()[0];
+    let compared = exhaustive::readers(&Model, cap, &alphabet, 5).unwrap();
+    println!("{} calls", compared);
+    assert!(compared > 100_000);
+}
+
+#[test]
+fn fragments() {
+    let alphabet = [
+        ask(1, 1, &[1, 3]),
+        ask(1, 2, &[2]),
+        ask(1, 1, &[]),
+        ask(2, 2, &[2]),
+        frag_sent(1, 1),
+        frag_sent(1, 2),
+        frag_sent(1, 3),
+        frag_sent(2, 2),
+        ack(2, &[], 4),
+    ];
+    let cap = caps()[0];
+    let compared = exhaustive::readers(&Model, cap, &alphabet, 5).unwrap();
+    println!("{} calls", compared);
+    assert!(compared > 50_000);
+}
+
+fn admit(opted_in: bool, way: Way) -> WriterCall {
+    WriterCall::Admit {
+        opted_in,
+        bytes: if opted_in { vec![1, 2] } else { vec![3] },
+        way,
+    }
+}
+
+fn kinds() -> Vec<Kind> {
+    let flags = [false, true];
+    let mut kinds = Vec::new();
+    for reliable in flags {
+        for builtin in flags {
+            for volatile in flags {
+                kinds.push(Kind {
+                    reliable,
+                    builtin,
+                    volatile,
+                });
+            }
+        }
+    }
+    kinds
+}
+
+#[test]
+fn writers_of_every_kind() {
+    let set_acked = |frontier| WriterCall::SetAcked { frontier };
+    let alphabet = [
+        admit(false, Way::Blocking),
+        admit(true, Way::Try),
+        set_acked(None),
+        set_acked(Some(0)),
+        set_acked(Some(2)),
+        set_acked(Some(3)),
+        WriterCall::SetSent { frontier: 1 },
+        WriterCall::SetSent { frontier: 2 },
+        WriterCall::Evict { before: 2 },
+    ];
+    let mut compared = 0;
+    for kind in kinds() {
+        for (window, backlog, retain) in [(1, 9, 1), (2, 1, 0), (0, 2, 2)] {
+            let limits = Limits {
+                window,
+                backlog,
+                retain,
+                slots: 3,
+                slot_bytes: 2,
+            };
+            compared += exhaustive::writers(&Model, kind, limits, &alphabet, 5).unwrap();
+        }
+    }
+    println!("{} calls", compared);
+    assert!(compared > 1_000_000);
+}
