@@ -1,1 +1,5 @@
-// Requested fragments in lent rooms.
+// Requested fragments in lent rooms: the samples, and 64 words of bits for each.
+pub mod bits;
+pub mod table;
+
+pub use table::NextPiece;

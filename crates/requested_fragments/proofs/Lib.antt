@@ -1,0 +1,7 @@
+-- Laws that belong to no one function.
+pub mod Digit
+pub mod Frags
+pub mod Cases
+pub mod Blocks
+pub mod Mark
+pub mod Laws
