@@ -3,8 +3,9 @@ ghost use mathlib.Core.Path.{_≡_};
 ghost use lib.ListN.{length};
 ghost use Rattle.numbers.specs.Promise.{Gives1};
 ghost use Rattle.number_sets.specs.Bits.{members};
-ghost use Rattle.number_sets.specs.Calls.{fragmentSet, fragmentRows, listed, nextFragmentMember, ofFragments, wideNumber, wideSet};
+ghost use Rattle.number_sets.specs.Calls.{fragmentSet, fragmentRows, listed, nextRank, nextFragmentMember, ofFragments, wideNumber, wideSet};
 use crate::sequence_number_set::Listed;
+use crate::sequence_number_set::NextRank;
 use crate::sequence_number_set::SequenceNumberSet;
 use numbers::Answer;
 use numbers::Cursor;
@@ -53,11 +54,18 @@ impl FragmentNumberSet {
         self.widened().list_members(out)
     }
 
+    // The smallest member from `from` through `top`, whatever these are.
+    pub fn next_rank(self, from: u64, top: u64) -> NextRank
+        ensures { λ r. ⌜ r ≡ nextRank (fragmentSet self) from top ⌝ }
+    {
+        self.widened().next_rank(from, top)
+    }
+
     // The smallest member at or after the cursor, and the cursor past it.
     pub fn next_member(self, at: Cursor) -> NextFragment
         ensures { λ r. ⌜ r ≡ nextFragmentMember self at ⌝ }
     {
-        let next = self.widened().next_rank(at.from, 4294967295);
+        let next = self.next_rank(at.from, 4294967295);
         let count = self.count;
         let mut rows = Rows::none();
         rows.bits = 256 < count;

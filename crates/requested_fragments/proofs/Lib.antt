@@ -5,3 +5,7 @@ pub mod Cases
 pub mod Blocks
 pub mod Mark
 pub mod Laws
+pub mod Asking
+pub mod Joined
+pub mod Onward
+pub mod Requests

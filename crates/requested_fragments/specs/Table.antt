@@ -4,9 +4,12 @@ use mathlib.Core.Bool.{Bool, true, false, cond, not, _&&_}
 use mathlib.Core.List.{List, [], _∷_, _++_}
 use lib.Dec.{eqb, leb}
 use lib.ListN.{length, take, drop, replicate}
-use Rattle.sets.specs.Sets.{empty}
+use Rattle.sets.specs.Sets.{empty, between}
 use Rattle.numbers.specs.Promise.{Left2}
-use Rattle.rising.specs.Runs.{zeros, runOk, over, roomOf}
+use Rattle.rising.specs.Runs.{zeros, runOk, over}
+use Rattle.number_sets.specs.declared.fragment_number_set.FragmentNumberSet.{FragmentNumberSet}
+use Rattle.number_sets.specs.Bits.{members}
+use Rattle.number_sets.specs.Calls.{fragmentSet}
 use Rattle.requested_fragments.specs.declared.table.NextPiece.{NextPiece}
 use Rattle.requested_fragments.specs.Words.{fragmentsOf, asking, notAsking}
 use Rattle.requested_fragments.specs.Entries.{Entry, nextSample, nextFragment}
@@ -90,6 +93,10 @@ holding t count samples words = record { result = length t; first = over samples
 abbrev pub markedIn : ℕ → ℕ → ℕ → List ℕ → List ℕ → Left2 ℕ (List ℕ) (List ℕ)
 markedIn n f count samples words =
     cond (fits count samples words) (holding (markT n f (tableOf count samples words)) count samples words) (same count samples words)
+
+-- the members of a set that can be asked for: 1 to 4,096
+abbrev pub askable : FragmentNumberSet → List ℕ
+askable set = between 1 4096 (members (fragmentSet set))
 
 -- a request that asks for nothing, or that the rooms can't hold, changes nothing
 abbrev pub askedIn : ℕ → List ℕ → ℕ → List ℕ → List ℕ → Left2 ℕ (List ℕ) (List ℕ)
