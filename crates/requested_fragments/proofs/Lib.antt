@@ -9,3 +9,13 @@ pub mod Asking
 pub mod Joined
 pub mod Onward
 pub mod Requests
+pub mod Meaning
+pub mod Coherent
+pub mod Form
+pub mod Drained
+pub mod Whole
+pub mod Plays
+pub mod Examples
+pub mod AskForm
+pub mod OneForm
+pub mod Unique

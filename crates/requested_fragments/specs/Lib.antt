@@ -3,3 +3,5 @@ pub mod Entries
 pub mod Words
 pub mod Find
 pub mod Table
+pub mod Drain
+pub mod Play
