@@ -1,6 +1,10 @@
 // A set of fragment numbers as RTPS writes it. As natural numbers it is a set of sequence numbers with a small base, and is read and written as that.
 ghost use mathlib.Core.Path.{_≡_};
+ghost use mathlib.Core.Bool.{not};
+ghost use Prim.Native.Nat.{_<_};
+ghost use lib.Dec.{leb};
 ghost use lib.ListN.{length};
+ghost use Rattle.sets.specs.Sets.{only, empty};
 ghost use Rattle.numbers.specs.Promise.{Gives1};
 ghost use Rattle.number_sets.specs.Bits.{members};
 ghost use Rattle.number_sets.specs.Calls.{fragmentSet, fragmentRows, listed, nextRank, nextFragmentMember, ofFragments, wideNumber, wideSet};
@@ -34,6 +38,14 @@ fn wide(n: FragmentNumber) -> SequenceNumber
 {
     let n = n.0;
     SequenceNumber(n as i64)
+}
+
+// The natural number, and that it is below 2 ^ 32.
+fn narrow(n: FragmentNumber) -> u64
+    ensures { λ r. ⌜ (r ≡ n .0) × (r < 4294967296) ⌝ }
+{
+    let n = n.0;
+    n as u64
 }
 
 impl FragmentNumberSet {
@@ -71,6 +83,16 @@ impl FragmentNumberSet {
         rows.bits = 256 < count;
         rows.nothing = next.none;
         NextFragment::of(rows, next.rank)
+    }
+
+    // Whether any member is n or more.
+    pub fn reaches(self, n: u64) -> bool
+        ensures { λ r. ⌜ r ≡ not (empty (only (leb n) (members (fragmentSet self)))) ⌝ }
+    {
+        // No member is as large as this.
+        let end = narrow(self.base) + self.count as u64;
+        let next = self.next_rank(n, end);
+        !next.none
     }
 
     // How many members there are.

@@ -6,14 +6,16 @@ use mathlib.Core.List.{List, [], _∷_, _++_}
 use native.Mathlib.Omega.{arith}
 use lib.Dec.{eqb, ltb, leb}
 use lib.ListN.{length, take, drop, replicate, length-replicate}
-use borrow.Author.Tests.{leb-true, leb-false, lt-ltb, le-leb, eq-eqb, eqb-false}
-use Rattle.sets.specs.Sets.{has, From, empty, union, between}
-use Rattle.sets.proofs.Has.{has-union, has-between, From-only, From-low, From-raise}
-use Rattle.sets.proofs.Bools.{and-left, and-right, and-both}
+use borrow.Author.Tests.{leb-true, leb-false, lt-ltb, le-ltb, le-leb, eq-eqb, ne-eqb, eqb-true, eqb-false}
+use Rattle.sets.specs.Sets.{has, From, empty, union, only, between, insert}
+use Rattle.sets.proofs.Ext.{ext}
+use Rattle.sets.proofs.Has.{has-union, has-only, has-between, From-only, From-low, From-raise}
+use Rattle.sets.proofs.Bools.{and-left, and-right, and-both, and-no, decide}
+use mathlib.Core.Logic.{_⊎_, inl, inr}
 use Rattle.requested_fragments.specs.Words.{fragmentsOf}
 use Rattle.rising.specs.Runs.{risesAbove, over, roomOf}
 use Rattle.numbers.specs.Number.{topNumber}
-use Rattle.requested_fragments.specs.Entries.{Entry, asked, requested}
+use Rattle.requested_fragments.specs.Entries.{Entry, asked, requested, samplesOf}
 use Rattle.requested_fragments.specs.Table.{Block, blocksOf, samplesIn, wordsIn, askT, askAll, askable, view, tableOf, entriesOf, coherentRooms, fits, askedIn}
 use Rattle.number_sets.specs.declared.fragment_number_set.FragmentNumberSet.{FragmentNumberSet}
 use Rattle.number_sets.specs.Bits.{members}
@@ -126,3 +128,43 @@ asked-again count S W n ms h r1 w lo hi room = go (empty ms) refl
         let vi : view (tableOf (length t) (roomOf 16 (samplesIn t)) (roomOf 1024 (wordsIn t))) ≡ asked n ms (view (tableOf count S W)) = ap view (form-table t g) ∙ ask-means n ms r1 w (tableOf count S W) (f0 .full) in
         let k1 : fits (length t) S W ≡ true = fit (length t) S W (omega (arith, c .lengthS, room)) (omega (arith, c .lengthW, room)) in
         rw (k0, e, k1) (rw (q .0, q .1) (co, vi))
+
+-- of a set whose base is not 0 and that has no member above 4,096, all members can be asked for
+pub askable-all : (set : FragmentNumberSet) → 1 ≤ set .base .0 → empty (only (leb 4097) (members (fragmentSet set))) ≡ true → askable set ≡ members (fragmentSet set)
+askable-all set h e =
+    ext b b (askable set) ms (From-only b (λ n. leb 1 n && leb n 4096) ms (members-rise (fragmentSet set))) (members-rise (fragmentSet set))
+    (λ n. has-between 1 4096 ms n ∙ go n (decide (has ms n)))
+  where
+    ms : List ℕ
+    ms = members (fragmentSet set)
+
+    b : ℕ
+    b = set .base .0
+
+    none : (l : List ℕ) (n : ℕ) → empty l ≡ true → has l n ≡ false
+    none [] n q = refl
+    none (x ∷ xs) n q = absurd (false≢true q)
+
+    top : (n : ℕ) → has ms n ≡ true → n ≤ 4096
+    top n q = elim (decide (leb 4097 n)) [
+      | inl p ↦ absurd (true≢false (sym (has-only (leb 4097) ms n ∙ rw (p, q) refl) ∙ none (only (leb 4097) ms) n e))
+      | inr p ↦ omega (arith, leb-false 4097 n p)
+    ]
+
+    go : (n : ℕ) → (has ms n ≡ true) ⊎ (has ms n ≡ false) → ((leb 1 n && leb n 4096) && has ms n) ≡ has ms n
+    go n (inl q) = rw (le-leb 1 n (omega (arith, From-low b ms n (members-rise (fragmentSet set)) q)), le-leb n 4096 (top n q), q) refl
+    go n (inr q) = rw (q, and-no (leb 1 n && leb n 4096)) refl
+
+-- the samples after a request: n joins them, so there is one entry more where n had none
+pub asked-samples : (n : ℕ) (ms : List ℕ) (es : List Entry) → samplesOf (asked n ms es) ≡ insert n (samplesOf es)
+asked-samples n ms [] = refl
+asked-samples n ms (e ∷ es) = go (decide (eqb (e .sample) n)) (decide (leb n (e .sample))) (asked-samples n ms es)
+  where
+    go : (eqb (e .sample) n ≡ true) ⊎ (eqb (e .sample) n ≡ false) → (leb n (e .sample) ≡ true) ⊎ (leb n (e .sample) ≡ false) → samplesOf (asked n ms es) ≡ insert n (samplesOf es)
+        → samplesOf (asked n ms (e ∷ es)) ≡ insert n (e .sample ∷ samplesOf es)
+    go (inl p) q r = rw (p, le-ltb n (e .sample) (omega (arith, eqb-true (e .sample) n p)), eq-eqb n (e .sample) (sym (eqb-true (e .sample) n p))) refl
+    go (inr p) (inl q) r = rw (p, q, lt-ltb n (e .sample) (strict (leb-true n (e .sample) q) (eqb-false (e .sample) n p))) refl
+      where
+        strict : n ≤ e .sample → (e .sample ≡ n → ⊥) → n < e .sample
+        strict u v = omega arith
+    go (inr p) (inr q) r = rw (p, q, le-ltb n (e .sample) (omega (arith, leb-false n (e .sample) q)), ne-eqb n (e .sample) (λ (z : n ≡ e .sample). eqb-false (e .sample) n p (sym z))) (ap (λ (l : List ℕ). e .sample ∷ l) r)

@@ -327,3 +327,7 @@ asking-length f ws = go (eqb f 0)
     go : (t : Bool) → length (cond t ws (asked (f - 1) ws)) ≡ length ws
     go true = refl
     go false = length-set ws ((f - 1) / 64) _
+
+-- they are no more than the words have bits for
+pub frag-within : (ws : List ℕ) (n : ℕ) → has (fragmentsOf ws) n ≡ true → (1 ≤ n) × (n ≤ 64 * length ws)
+frag-within ws n e = let p = asked-place ws n e in (p .0, omega (arith, p .0, p .1))

@@ -19,3 +19,4 @@ pub mod Examples
 pub mod AskForm
 pub mod OneForm
 pub mod Unique
+pub mod Both

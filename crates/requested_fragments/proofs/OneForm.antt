@@ -25,7 +25,7 @@ use Rattle.requested_fragments.proofs.Form.{Fit, coherent-fit, holding-
 abbrev pub Words : List ℕ → Type 0
 Words ws = (i : ℕ) → getD ws i 0 < 2 ^ 64
 
-abbrev Bounded : List Block → Type 0
+abbrev pub Bounded : List Block → Type 0
 Bounded [] = Unit {0}
 Bounded (b ∷ bs) = Words (b .words) × Bounded bs
 
@@ -41,7 +41,7 @@ part ws h i = go (decide (ltb i 64))
 rest : (ws : List ℕ) → Words ws → Words (drop 64 ws)
 rest ws h i = subst (λ (x : ℕ). x < 2 ^ 64) (sym (getD-drop 64 ws i 0)) (h (64 + i))
 
-bounded : (ss ws : List ℕ) → Words ws → Bounded (blocksOf ss ws)
+pub bounded : (ss ws : List ℕ) → Words ws → Bounded (blocksOf ss ws)
 bounded [] ws h = tt
 bounded (s ∷ ss) ws h = (part ws h, bounded ss (drop 64 ws) (rest ws h))
 
@@ -51,7 +51,7 @@ heads e d es ds q = (ap (λ (x : Entry). x .sample) p, ap (λ (x : Entry). x .fr
     p : e ≡ d
     p = cc
 
-tables : (t u : List Block) → Full t → Full u → Bounded t → Bounded u → view t ≡ view u → t ≡ u
+pub tables : (t u : List Block) → Full t → Full u → Bounded t → Bounded u → view t ≡ view u → t ≡ u
 tables [] [] f g h k e = refl
 tables [] (u ∷ us) f g h k e = let z : _≡_ {A = ℕ} 0 1 = cc in absurd (omega arith)
 tables (t ∷ ts) [] f g h k e = let z : _≡_ {A = ℕ} 0 1 = cc in absurd (omega arith)

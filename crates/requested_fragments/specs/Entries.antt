@@ -48,3 +48,7 @@ nextFragment f (e ∷ es) = firstOr 0 (only (leb f) (e .frags))
 abbrev pub some : List Entry → Bool
 some [] = false
 some (e ∷ es) = true
+
+abbrev pub samplesOf : List Entry → List ℕ
+samplesOf [] = []
+samplesOf (e ∷ es) = e .sample ∷ samplesOf es

@@ -6,13 +6,13 @@ use lib.Dec.{eqb, leb}
 use lib.ListN.{length, take, drop, replicate}
 use Rattle.sets.specs.Sets.{empty, between}
 use Rattle.numbers.specs.Promise.{Left2}
-use Rattle.rising.specs.Runs.{zeros, runOk, over}
+use Rattle.rising.specs.Runs.{zeros, runOk, over, roomOf}
 use Rattle.number_sets.specs.declared.fragment_number_set.FragmentNumberSet.{FragmentNumberSet}
 use Rattle.number_sets.specs.Bits.{members}
 use Rattle.number_sets.specs.Calls.{fragmentSet}
 use Rattle.requested_fragments.specs.declared.table.NextPiece.{NextPiece}
 use Rattle.requested_fragments.specs.Words.{fragmentsOf, asking, notAsking}
-use Rattle.requested_fragments.specs.Entries.{Entry, nextSample, nextFragment}
+use Rattle.requested_fragments.specs.Entries.{Entry, samplesOf, nextSample, nextFragment}
 
 pub record Block : Type 0 where
   pub sample : ℕ
@@ -54,6 +54,22 @@ coherentRooms count samples words =
     && (eqb (length words) 1024
     && (runOk 0 count samples && (allHold count words && zeros (drop (64 * count) words))))
 
+-- the fragments ms of one block are asked for
+abbrev pub askAll : List ℕ → List ℕ → List ℕ
+askAll [] ws = ws
+askAll (f ∷ fs) ws = askAll fs (asking f ws)
+
+-- and back: the rooms that entries have
+abbrev pub blocksFor : List Entry → List Block
+blocksFor [] = []
+blocksFor (e ∷ es) = record { sample = e .sample; words = askAll (e .frags) (replicate 64 0) } ∷ blocksFor es
+
+abbrev pub samplesRoom : List Entry → List ℕ
+samplesRoom es = roomOf 16 (samplesOf es)
+
+abbrev pub wordsRoom : List Entry → List ℕ
+wordsRoom es = roomOf 1024 (wordsIn (blocksFor es))
+
 -- fragment f of sample n is sent; a block that asks for nothing goes
 abbrev pub keepBlock : Block → List Block → List Block
 keepBlock b bs = cond (empty (fragmentsOf (b .words))) bs (b ∷ bs)
@@ -61,11 +77,6 @@ keepBlock b bs = cond (empty (fragmentsOf (b .words))) bs (b ∷ bs)
 abbrev pub markT : ℕ → ℕ → List Block → List Block
 markT n f [] = []
 markT n f (b ∷ bs) = cond (eqb (b .sample) n) (keepBlock (record { sample = b .sample; words = notAsking f (b .words) }) bs) (b ∷ markT n f bs)
-
--- the fragments ms of one block are asked for
-abbrev pub askAll : List ℕ → List ℕ → List ℕ
-askAll [] ws = ws
-askAll (f ∷ fs) ws = askAll fs (asking f ws)
 
 -- the fragments ms of sample n are asked for
 abbrev pub askT : ℕ → List ℕ → List Block → List Block
