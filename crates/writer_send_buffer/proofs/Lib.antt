@@ -1,2 +1,5 @@
 -- Laws that belong to no one function.
 pub mod Calls
+pub mod Lists
+pub mod Slots
+pub mod Sound

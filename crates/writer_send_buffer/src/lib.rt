@@ -2,10 +2,15 @@
 pub mod flow;
 pub mod frontiers;
 pub mod limits;
+pub mod samples;
 
 pub use flow::Moved;
 pub use flow::Numbered;
 pub use flow::Told;
 pub use flow::WriterSendBuffer;
+pub use frontiers::AckedFrontier;
+pub use frontiers::Woken;
 pub use limits::Kind;
 pub use limits::Limits;
+pub use samples::Admitted;
+pub use samples::Located;
