@@ -3,3 +3,6 @@ pub mod Calls
 pub mod Lists
 pub mod Slots
 pub mod Sound
+pub mod Steps
+pub mod Window
+pub mod Kept

@@ -2,3 +2,4 @@
 pub mod Flow
 pub mod Buffer
 pub mod Samples
+pub mod History
