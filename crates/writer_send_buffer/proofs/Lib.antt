@@ -6,3 +6,6 @@ pub mod Sound
 pub mod Steps
 pub mod Window
 pub mod Kept
+pub mod Cells
+pub mod Table
+pub mod Unique

@@ -3,3 +3,4 @@ pub mod Flow
 pub mod Buffer
 pub mod Samples
 pub mod History
+pub mod Examples

@@ -1,6 +1,7 @@
 // A writer's send buffer: the flow record and admission, and the retained samples in a lent store.
 pub mod flow;
 pub mod frontiers;
+pub mod in_place;
 pub mod limits;
 pub mod samples;
 
