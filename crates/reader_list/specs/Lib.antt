@@ -1,2 +1,4 @@
 -- The definitions of `reader_list`.
 pub mod Readers
+pub mod Slots
+pub mod Walk

@@ -35,8 +35,10 @@ abbrev pub placeOf : ℕ → List Head → ℕ
 placeOf i [] = 0
 placeOf i (h ∷ hs) = cond (eqb (h .id) i) 0 (suc (placeOf i hs))
 
+-- whether a slot has the id
 abbrev pub isThere : ℕ → List Head → Bool
-isThere i hs = ltb (placeOf i hs) (length hs)
+isThere i [] = false
+isThere i (h ∷ hs) = eqb (h .id) i || isThere i hs
 
 abbrev pub headAt : ℕ → List Head → Head
 headAt i hs = getD hs (placeOf i hs) free
@@ -65,11 +67,11 @@ abbrev pub slotsFit : List Head → Bool
 slotsFit [] = true
 slotsFit (h ∷ hs) = slotFits h && slotsFit hs
 
--- no other slot has the id, unless it is free
+-- no other slot has the same id, unless it is free
 abbrev pub different : List Head → Bool
 different [] = true
 different (h ∷ hs) = (eqb (h .id) 0 || not (isThere (h .id) hs)) && different hs
 
 -- "ids at least 1, all different", in 1 to 64 slots
 abbrev pub fits : List Head → Bool
-fits hs = (leb 1 (length hs) && leb (length hs) 64) && (slotsFit hs && different hs)
+fits hs = leb 1 (length hs) && (leb (length hs) 64 && (slotsFit hs && different hs))

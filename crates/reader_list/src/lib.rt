@@ -1,5 +1,11 @@
 // The readers of a writer, side by side in one lent list.
+pub mod calls;
 pub mod heads;
+pub mod walk;
 
-pub use heads::Frontier;
+pub use calls::Acked;
+pub use calls::Found;
+pub use calls::Front;
+pub use calls::Match;
+pub use heads::AckedFrontier;
 pub use heads::ReaderHead;

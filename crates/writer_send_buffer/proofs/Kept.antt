@@ -1,31 +1,30 @@
 -- What is written is what is fetched: over any run of calls, each retained number shows exactly the bytes admitted under it. Assumes nothing.
-use Prim.Native.Nat.{ℕ, suc, zero, _+_, _-_, _*_, _%_, _<_, _≤_}
+use Prim.Native.Nat.{ℕ, _+_, _-_, _*_, _%_, _<_, _≤_}
 use mathlib.Core.Path.{_≡_, refl, sym, ap, subst, _∙_}
-use mathlib.Core.Bool.{Bool, true, false, not, cond, _&&_}
+use mathlib.Core.Bool.{Bool, true, false, not, cond}
 use mathlib.Core.Logic.{⊎-elim}
 use mathlib.Core.List.{List, [], _∷_, _++_}
 use native.Mathlib.Omega.{arith}
-use lib.Dec.{ltb, leb, eqb}
-use lib.ListN.{length, getD, take, drop, set, length-set, length-append, List·getD-append}
+use lib.Dec.{ltb, leb}
+use lib.ListN.{length, getD, set, length-set, length-append, List·getD-append}
 use lib.Seq.{getD-set-same, getD-set-other, getD-append-seam}
 use borrow.Author.Tests.{le-leb, leb-true, eq-eqb, eqb-true, not-false}
-use Rattle.numbers.specs.Number.{rankOf, numberAt}
+use Rattle.numbers.specs.Number.{rankOf}
 use Rattle.numbers.specs.Refusals.{answerOf, isDone, unless, done}
 use Rattle.numbers.specs.Promise.{Left1}
 use Rattle.numbers.specs.declared.answer.Answer.{Answer}
 use Rattle.numbers.specs.declared.answer.Rows.{Rows}
 use Rattle.numbers.specs.declared.sequence_number.SequenceNumber.{SequenceNumber}
-use Rattle.numbers.proofs.Refused.{Clear, clear}
+use Rattle.numbers.proofs.Refused.{clear}
 use Rattle.writer_send_buffer.specs.declared.flow.WriterSendBuffer.{WriterSendBuffer}
-use Rattle.writer_send_buffer.specs.declared.frontiers.AckedFrontier.{AckedFrontier}
-use Rattle.writer_send_buffer.specs.Flow.{Flow, fits, full, usedUp, admitted, trimmed, retained, ahead, stored, wakes, raised, evicted}
+use Rattle.writer_send_buffer.specs.Flow.{Flow, fits, usedUp, admitted, trimmed, retained, ahead, stored, wakes, raised, evicted}
 use Rattle.writer_send_buffer.specs.Buffer.{view, form, isCoherent, ranged, frontierOf, toldNo}
-use Rattle.writer_send_buffer.specs.Samples.{slotOf, startOf, bytesOf, over, lengthsFit, storeRows, isCoherentStore, writeRows, fetchRows, fetchOf}
+use Rattle.writer_send_buffer.specs.Samples.{slotOf, bytesOf, over, lengthsFit, storeRows, isCoherentStore, writeRows, fetchOf}
 use Rattle.writer_send_buffer.specs.History.{Lent, Call, admit, setAcked, setSent, removeBefore, leaves, wrote, run, history, Kept}
 use Rattle.writer_send_buffer.proofs.Lists.{slot-in}
 use Rattle.writer_send_buffer.proofs.Slots.{lt-or-ge, apart, over-length, over-same, over-other}
-use Rattle.writer_send_buffer.proofs.Sound.{holds, all-hold, and-left, and-right, and-both, Fits, Coherent, coherent-is, Sound, sound-is, Writes, writes-is, slot-below, next-slot, length-fits, fit-of}
-use Rattle.writer_send_buffer.proofs.Steps.{rank-at, view-form, form-coherent, After, after, fits-admitted, fits-stored, fits-raised, fits-evicted}
+use Rattle.writer_send_buffer.proofs.Sound.{holds, all-hold, and-left, and-right, and-both, Fits, coherent-is, Sound, sound-is, Writes, writes-is, slot-below, next-slot, length-fits, fit-of}
+use Rattle.writer_send_buffer.proofs.Steps.{view-form, form-coherent, After, after, fits-admitted, fits-stored, fits-raised, fits-evicted}
 
 -- ---- a retained sample of a coherent store is shown
 shown-kept : (f : WriterSendBuffer) (s lens : List ℕ) (n : SequenceNumber) → isCoherentStore f (length s) lens ≡ true → retained (rankOf n) (view f) ≡ true → fetchOf f s lens n ≡ bytesOf (view f) s lens (rankOf n)

@@ -1,14 +1,14 @@
 -- Laws of lists and of remainders that the loops use. Assumes nothing.
-use Prim.Native.Nat.{ℕ, suc, zero, _+_, _-_, _*_, _/_, _%_, _<_, _≤_}
+use Prim.Native.Nat.{ℕ, suc, _+_, _-_, _*_, _%_, _<_, _≤_}
 use mathlib.Core.Path.{_≡_, refl, sym, ap, _∙_}
 use mathlib.Core.Bool.{Bool, true, false, _&&_}
-use mathlib.Core.List.{List, [], _∷_, _++_, append-nil, append-assoc}
+use mathlib.Core.List.{List, [], _∷_, _++_, append-nil}
 use native.Mathlib.Numerals.{add-one}
-use native.Mathlib.Nat.{mod-lt, mod-add-mod, mod-eq-of-lt, mod-self, div-add-mod', mul-le-mul-right, mul-le-mul-left, le-trans, add-mul, one-mul}
+use native.Mathlib.Nat.{mod-add-mod, mod-eq-of-lt, mod-self, mul-le-mul-right, mul-le-mul-left, le-trans, add-mul, one-mul}
 use native.Mathlib.Omega.{arith}
 use lib.Dec.{leb}
-use lib.ListN.{length, take, drop, getD, set, drop-of-length-le, length-append, length-take, length-drop, List·getD-append}
-use lib.Seq.{drop-cons, take-suc, take-all, append-snoc, set-at, length-take-le, getD-append-add, getD-drop, getD-take}
+use lib.ListN.{length, take, drop, getD, set, drop-of-length-le}
+use lib.Seq.{drop-cons, take-suc, take-all, append-snoc, set-at, length-take-le}
 use Rattle.writer_send_buffer.specs.Samples.{lengthsFit}
 
 -- ---- what is left at i

@@ -1,11 +1,11 @@
 -- The steps keep the record coherent; the record on natural numbers, and back. Assumes nothing.
-use Prim.Native.Nat.{ℕ, _+_, _-_, _<_, _≤_, max}
-use mathlib.Core.Path.{_≡_, refl, sym, ap, _∙_}
-use mathlib.Core.Bool.{Bool, true, false, not, cond, _&&_, _||_}
+use Prim.Native.Nat.{ℕ, _+_, _-_, _<_, _≤_}
+use mathlib.Core.Path.{_≡_, refl, ap, _∙_}
+use mathlib.Core.Bool.{Bool, true, false, not, cond, _&&_}
 use native.Mathlib.Omega.{arith}
 use lib.IntN.{ℤ, pos, negsuc}
 use lib.Dec.{leb, ltb, eqb}
-use borrow.Author.Tests.{lt-ltb, leb-false, ltb-true, ltb-false, eqb-true, eqb-false, le-leb}
+use borrow.Author.Tests.{lt-ltb, leb-false, ltb-false, eqb-false}
 use Rattle.numbers.specs.Number.{rankOf, negative, numberAt, below0, natOf}
 use Rattle.numbers.specs.declared.sequence_number.SequenceNumber.{SequenceNumber}
 use Rattle.writer_send_buffer.specs.declared.limits.Kind.{Kind}
@@ -13,7 +13,7 @@ use Rattle.writer_send_buffer.specs.declared.limits.Limits.{Limits}
 use Rattle.writer_send_buffer.specs.declared.flow.WriterSendBuffer.{WriterSendBuffer}
 use Rattle.writer_send_buffer.specs.Flow.{Flow, allowed, fits, blank, trims, full, usedUp, trimmed, admitted, ahead, stored, raised, evicted}
 use Rattle.writer_send_buffer.specs.Buffer.{view, form, isCoherent}
-use Rattle.writer_send_buffer.proofs.Sound.{Fits, Allowed, allowed-is, fits-is, is-fits, Coherent, coherent-is, and-both}
+use Rattle.writer_send_buffer.proofs.Sound.{Fits, Allowed, allowed-is, is-fits, coherent-is, and-both}
 
 -- ---- numbers
 pub rank-at : (n : ℕ) → n < 9223372036854775808 → rankOf (numberAt n) ≡ n

@@ -1,13 +1,13 @@
 -- The window and the backlog: what a write that found room leaves, and when a write would block. Assumes nothing.
 use Prim.Native.Nat.{ℕ, _+_, _-_, _<_, _≤_}
-use mathlib.Core.Path.{_≡_, refl, sym, ap, _∙_}
+use mathlib.Core.Path.{_≡_, refl, sym, ap}
 use mathlib.Core.Bool.{Bool, true, false, not, cond, _&&_, _||_}
 use native.Mathlib.Omega.{arith}
-use lib.Dec.{leb, ltb, eqb}
-use borrow.Author.Tests.{leb-false, ltb-true, le-ltb, not-false}
+use lib.Dec.{leb, ltb}
+use borrow.Author.Tests.{leb-false, ltb-true, le-ltb}
 use Rattle.numbers.specs.Refusals.{answerOf}
 use Rattle.writer_send_buffer.specs.Flow.{Flow, mayBlock, room, trims, full, usedUp, admitted, admitRows}
-use Rattle.writer_send_buffer.proofs.Sound.{Fits, Allowed, allowed-is, and-left, and-right}
+use Rattle.writer_send_buffer.proofs.Sound.{Fits, and-left, and-right}
 
 module _ (f : Flow) (opted : Bool) (plain : f .kind .builtin ≡ false) where
   module _ (blocks : mayBlock f opted ≡ true) where

@@ -1,7 +1,7 @@
 -- Document 01's examples of admission, as a table. Assumes nothing.
 use Prim.Native.Nat.{ℕ, _+_}
 use mathlib.Core.Path.{_≡_}
-use mathlib.Core.Bool.{Bool, true, false, cond}
+use mathlib.Core.Bool.{true, false, cond}
 use mathlib.Core.List.{List, [], _∷_}
 use Rattle.numbers.specs.Refusals.{answerOf, isDone}
 use Rattle.writer_send_buffer.specs.declared.limits.Kind.{Kind}

@@ -1,14 +1,12 @@
 -- The retained samples in a lent store, and what the calls on it leave. A lent room beside it has the samples' lengths. Assumes nothing.
 use Prim.Native.Nat.{ℕ, zero, suc, _+_, _-_, _*_, _%_, _<_, _≤_}
-use mathlib.Core.Path.{_≡_}
-use mathlib.Core.Bool.{Bool, true, false, not, cond, _&&_}
+use mathlib.Core.Bool.{Bool, true, false, not, _&&_}
 use mathlib.Core.List.{List, [], _∷_, _++_}
 use lib.ListN.{length, take, drop, getD, set}
 use lib.Dec.{leb, eqb}
 use Rattle.numbers.specs.Number.{rankOf, numberAt}
-use Rattle.numbers.specs.Refusals.{unless, done, isDone, answerOf}
+use Rattle.numbers.specs.Refusals.{unless, done}
 use Rattle.numbers.specs.Promise.{Left2, Left3}
-use Rattle.numbers.specs.declared.answer.Answer.{Answer}
 use Rattle.numbers.specs.declared.answer.Rows.{Rows}
 use Rattle.numbers.specs.declared.sequence_number.SequenceNumber.{SequenceNumber}
 use Rattle.writer_send_buffer.specs.declared.flow.WriterSendBuffer.{WriterSendBuffer}

@@ -1,9 +1,8 @@
 -- `copy_in` meets its contract. Assumes nothing.
-use Prim.Native.Nat.{ℕ, _+_, _-_, _<_, _≤_}
+use Prim.Native.Nat.{ℕ, _-_, _<_, _≤_}
 use mathlib.Core.Path.{_≡_, refl, sym, ap, _∙_}
 use mathlib.Core.List.{List}
 use native.Mathlib.Omega.{arith}
-use borrow.Author.Needs.{needs}
 use lib.ListN.{length, getD, set, length-set}
 use Rattle.writer_send_buffer.proofs.Lists.{upto, upto-more, upto-all}
 use Rattle.writer_send_buffer.proofs.samples.copy_in.Statement.{statement}

@@ -1,12 +1,12 @@
 -- `lengths_fit` meets its contract: the slot follows the number around. Assumes nothing.
 use Prim.Native.Nat.{ℕ, _+_, _-_, _<_, _≤_, _%_}
 use mathlib.Core.Path.{_≡_, refl, sym, ap, _∙_}
-use mathlib.Core.Bool.{Bool, _&&_}
+use mathlib.Core.Bool.{_&&_}
 use mathlib.Core.Logic.{⊎-elim}
 use native.Mathlib.Nat.{mod-lt, add-zero, sub-zero}
 use native.Mathlib.Omega.{arith}
 use borrow.Author.Needs.{needs}
-use lib.ListN.{length, getD}
+use lib.ListN.{length}
 use Rattle.writer_send_buffer.specs.Samples.{lengthsFit}
 use Rattle.writer_send_buffer.proofs.Lists.{mod-step, mod-wrap, fit-more, and-true}
 use Rattle.writer_send_buffer.proofs.samples.lengths_fit.Statement.{statement}

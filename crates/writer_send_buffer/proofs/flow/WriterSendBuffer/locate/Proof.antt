@@ -1,5 +1,5 @@
 -- `locate` meets its contract. Assumes nothing.
-use mathlib.Core.Path.{_≡_, sym, ap, _∙_}
+use mathlib.Core.Path.{_≡_, _∙_}
 use mathlib.Core.Bool.{_&&_}
 use Prim.Native.Nat.{_-_}
 use native.Mathlib.Omega.{arith}

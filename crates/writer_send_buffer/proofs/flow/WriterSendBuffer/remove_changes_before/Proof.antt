@@ -7,9 +7,7 @@ use Rattle.lent.proofs.Plain.{moved, By2}
 use Rattle.lent.proofs.Lent.{lent}
 use Rattle.numbers.specs.declared.sequence_number.SequenceNumber.{SequenceNumber}
 use Rattle.writer_send_buffer.specs.declared.flow.WriterSendBuffer.{WriterSendBuffer}
-use Rattle.writer_send_buffer.specs.declared.frontiers.AckedFrontier.{AckedFrontier}
 use Rattle.writer_send_buffer.specs.declared.flow.Moved.{Moved}
-use Rattle.writer_send_buffer.specs.declared.frontiers.Woken.{Woken}
 use Rattle.writer_send_buffer.specs.Buffer.{evictOf, moved as movedAs}
 use Rattle.writer_send_buffer.proofs.Cells.{flow, answer, sequence, moved-flow}
 use Rattle.writer_send_buffer.proofs.flow.WriterSendBuffer.with_changes_removed.Symbol as callee

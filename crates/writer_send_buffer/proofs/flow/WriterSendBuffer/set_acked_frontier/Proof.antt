@@ -5,10 +5,8 @@ use denote.Triple.Spec.{tripleOf}
 use denote.Triple.Table.{entered, cited}
 use Rattle.lent.proofs.Plain.{moved, By2}
 use Rattle.lent.proofs.Lent.{lent}
-use Rattle.numbers.specs.declared.sequence_number.SequenceNumber.{SequenceNumber}
 use Rattle.writer_send_buffer.specs.declared.flow.WriterSendBuffer.{WriterSendBuffer}
 use Rattle.writer_send_buffer.specs.declared.frontiers.AckedFrontier.{AckedFrontier}
-use Rattle.writer_send_buffer.specs.declared.flow.Moved.{Moved}
 use Rattle.writer_send_buffer.specs.declared.frontiers.Woken.{Woken}
 use Rattle.writer_send_buffer.specs.Buffer.{ackedOf, woken as wokenAs}
 use Rattle.writer_send_buffer.proofs.Cells.{flow, told, frontier, woken-flow}

@@ -1,6 +1,6 @@
 -- `with_sample` meets its contract. Assumes nothing.
-use Prim.Native.Nat.{ℕ, _+_, _≤_, _*_, _%_}
-use mathlib.Core.Path.{_≡_, refl, sym, ap, _∙_}
+use Prim.Native.Nat.{ℕ, _+_}
+use mathlib.Core.Path.{_≡_, refl, ap, _∙_}
 use mathlib.Core.Bool.{Bool}
 use mathlib.Core.List.{List}
 use native.Mathlib.Omega.{arith}
@@ -16,7 +16,7 @@ use Rattle.writer_send_buffer.specs.Flow.{admitRows, admitted}
 use Rattle.writer_send_buffer.specs.Buffer.{view, form, noNumber}
 use Rattle.writer_send_buffer.specs.Samples.{writeRows, admitOf, handed, over, startOf, slotOf}
 use Rattle.writer_send_buffer.proofs.Calls.{is-0}
-use Rattle.writer_send_buffer.proofs.Lists.{area, slot-in}
+use Rattle.writer_send_buffer.proofs.Lists.{slot-in}
 use Rattle.writer_send_buffer.proofs.Sound.{writes-is, slot-below, next-slot}
 use borrow.Author.Needs.{needs}
 use Rattle.writer_send_buffer.proofs.flow.WriterSendBuffer.with_sample.Statement.{
