@@ -35,7 +35,7 @@ placed at n hit = cond (ltb at n) at (cond hit at (counted n))
 abbrev pub seenStep : Seen → ReaderHead → Seen
 seenStep s h =
     record {
-      ids = set (s .ids) (s .count) (h .id);
+      ids = cond (ltb (s .count) 64) (set (s .ids) (s .count) (h .id)) (s .ids);
       count = counted (s .count);
       clean = s .clean && slotFits (headOf h);
       at = placed (s .at) (s .count) (eqb (h .id) (s .ask .id));

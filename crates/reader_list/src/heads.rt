@@ -1,5 +1,6 @@
 // One slot of the list, and the frontier.
 ghost use mathlib.Core.Path.{_≡_};
+ghost use Prim.Native.Nat.{max};
 ghost use Rattle.reader_list.specs.Slots.{frontierOf, frontierAt};
 use numbers::SequenceNumber;
 
@@ -18,6 +19,12 @@ pub struct AckedFrontier {
     pub acked: SequenceNumber,
 }
 
+pub fn larger(a: u64, b: u64) -> u64
+    ensures { λ r. ⌜ r ≡ max a b ⌝ }
+{
+    if a < b { b } else { a }
+}
+
 impl AckedFrontier {
     // Its natural number, raised to 1 at least; 0 stands for an absent one.
     pub fn rank(self) -> u64
@@ -25,12 +32,10 @@ impl AckedFrontier {
     {
         let n = self.acked.rank();
         if self.present {
-            if n < 1 {
-                return 1;
-            }
-            return n;
+            larger(1, n)
+        } else {
+            0
         }
-        0
     }
 
     // The frontier of a natural number.

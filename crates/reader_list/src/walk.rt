@@ -7,6 +7,7 @@ ghost use Rattle.reader_list.specs.Readers.{meet, slotFits};
 ghost use Rattle.reader_list.specs.Slots.{headOf, freeSlot};
 ghost use Rattle.reader_list.specs.Walk.{isIn, distinct, begun, counted, placed, seenStep, isWhole};
 use crate::heads::ReaderHead;
+use crate::heads::larger;
 use numbers::SequenceNumber;
 
 // What a call asks.
@@ -84,7 +85,7 @@ fn met(front: u64, h: ReaderHead) -> u64
     if !h.reliable {
         return front;
     }
-    let raised = if n < 1 { 1 } else { n };
+    let raised = larger(1, n);
     if front == 0 {
         return raised;
     }
