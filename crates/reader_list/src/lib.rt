@@ -1,7 +1,8 @@
 // The readers of a writer, side by side in one lent list.
 pub mod calls;
+mod ends;
 pub mod heads;
-pub mod walk;
+mod walk;
 
 pub use calls::Acked;
 pub use calls::Found;
