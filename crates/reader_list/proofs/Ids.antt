@@ -43,6 +43,14 @@ pub and-false : (a : Bool) → false ≡ (a && false)
 and-false true = refl
 and-false false = refl
 
+pub and-left : (a b : Bool) → (a && b) ≡ true → a ≡ true
+and-left true b h = refl
+and-left false b h = h
+
+pub and-right : (a b : Bool) → (a && b) ≡ true → b ≡ true
+and-right true b h = h
+and-right false b h = let o : _≡_ {A = ℕ} 0 1 = cc in absurd (omega arith)
+
 -- one id more
 pub in-more : (x : ℕ) (s : List ℕ) (i : ℕ) (found whole : Bool) → i < length s → (found || isIn x (drop i s)) ≡ whole → ((found || eqb (getD s i 0) x) || isIn x (drop (i + 1) s)) ≡ whole
 in-more x s i found whole h e = or-assoc found (eqb (getD s i 0) x) (isIn x (drop (i + 1) s)) ∙ rw (here s i h) at e
