@@ -78,7 +78,6 @@ pub record Gathered (s : Seen) (hs : List ReaderHead) (t : Seen) : Type 0 where
   pub had : s .free < s .count → t .free ≡ s .free
   pub wanted : s .free ≡ s .count → t .free ≡ s .count + placeOf 0 (readers hs)
   pub front : t .front ≡ meet (s .front) (frontier (readers hs))
-  pub ask : t .ask ≡ s .ask
 
 module _ (s : Seen) (h : ReaderHead) (hs : List ReaderHead) (long : length (s .ids) ≡ 64) (few : s .count + length (h ∷ hs) ≤ 64) where
   abbrev s′ : Seen
@@ -168,7 +167,6 @@ module _ (s : Seen) (h : ReaderHead) (hs : List ReaderHead) (long : length (s .i
           had = had-on;
           wanted = wanted-on;
           front = front-on;
-          ask = g .ask;
         }
 
 gathered : (hs : List ReaderHead) (s : Seen) → length (s .ids) ≡ 64 → s .count + length hs ≤ 64 → Gathered s hs (foldl seenStep s hs)
@@ -182,7 +180,6 @@ gathered [] s long few =
       had = λ l. refl;
       wanted = λ e. e ∙ sym (add-zero (s .count));
       front = sym (meet-none (s .front));
-      ask = refl;
     }
   where
     meet-none : (a : ℕ) → meet a 0 ≡ a
@@ -214,6 +211,11 @@ counted-min n m = go (ltb n 65) refl
 many : (hs : List ReaderHead) (s : Seen) → s .count ≤ 65 → foldl seenStep s hs .count ≡ min 65 (s .count + length hs)
 many [] s h = omega arith
 many (x ∷ hs) s h = many hs (seenStep s x) (counted-most (s .count) h) ∙ counted-min (s .count) (length hs)
+
+-- ---- what is asked stays
+pub asked : (hs : List ReaderHead) (s : Seen) → foldl seenStep s hs .ask ≡ s .ask
+asked [] s = refl
+asked (h ∷ hs) s = asked hs (seenStep s h)
 
 -- ---- the whole walk
 module _ (a : Ask) (hs : List ReaderHead) where
@@ -250,9 +252,6 @@ module _ (a : Ask) (hs : List ReaderHead) where
 
     pub room-is : hasFree end ≡ isThere 0 (readers hs)
     room-is = (λ i. ltb (free-is i) ((count-is ∙ sym (length-readers hs)) i)) ∙ place-there 0 (readers hs)
-
-    pub ask-is : end .ask ≡ a
-    ask-is = g .ask
 
   pub whole-is : isWhole end ≡ isCoherent hs
   whole-is = go (leb (length hs) 64) refl

@@ -31,11 +31,7 @@ impl AckedFrontier {
         ensures { λ r. ⌜ r ≡ frontierOf self ⌝ }
     {
         let n = self.acked.rank();
-        if self.present {
-            larger(1, n)
-        } else {
-            0
-        }
+        if self.present { larger(1, n) } else { 0 }
     }
 
     // The frontier of a natural number.
