@@ -2,3 +2,4 @@
 pub mod Readers
 pub mod Slots
 pub mod Walk
+pub mod Arrays

@@ -1,9 +1,12 @@
 // The readers of a writer, side by side in one lent list.
+pub mod arrays;
 pub mod calls;
 mod ends;
 pub mod heads;
 mod walk;
 
+pub use arrays::Changed2;
+pub use arrays::Changed64;
 pub use calls::Acked;
 pub use calls::Found;
 pub use calls::Front;
