@@ -13,8 +13,8 @@ use Rattle.writer_send_buffer.proofs.flow.Numbered as Numbered′
 use Rattle.writer_send_buffer.proofs.flow.Numbered.Laws as Numbered″
 use Rattle.writer_send_buffer.proofs.flow.Moved as Moved′
 use Rattle.writer_send_buffer.proofs.flow.Moved.Laws as Moved″
-use Rattle.writer_send_buffer.proofs.frontiers.AckedFrontier as Frontier′
-use Rattle.writer_send_buffer.proofs.frontiers.AckedFrontier.Laws as Frontier″
+use Rattle.reader_list.proofs.heads.AckedFrontier as Frontier′
+use Rattle.reader_list.proofs.heads.AckedFrontier.Laws as Frontier″
 use Rattle.writer_send_buffer.proofs.frontiers.Woken as Woken′
 use Rattle.writer_send_buffer.proofs.frontiers.Woken.Laws as Woken″
 use Rattle.writer_send_buffer.proofs.samples.Admitted as Admitted′

@@ -18,7 +18,8 @@ use Rattle.numbers.specs.declared.sequence_number.SequenceNumber.{SequenceNumbe
 use Rattle.numbers.proofs.Refused.{clear}
 use Rattle.writer_send_buffer.specs.declared.flow.WriterSendBuffer.{WriterSendBuffer}
 use Rattle.writer_send_buffer.specs.Flow.{Flow, fits, usedUp, admitted, trimmed, retained, ahead, stored, wakes, raised, evicted}
-use Rattle.writer_send_buffer.specs.Buffer.{view, form, isCoherent, ranged, frontierOf, toldNo}
+use Rattle.reader_list.specs.Slots.{frontierOf}
+use Rattle.writer_send_buffer.specs.Buffer.{view, form, isCoherent, ranged, toldNo}
 use Rattle.writer_send_buffer.specs.Samples.{slotOf, bytesOf, over, lengthsFit, storeRows, isCoherentStore, writeRows, fetchOf}
 use Rattle.writer_send_buffer.specs.History.{Lent, Call, admit, setAcked, setSent, removeBefore, leaves, wrote, run, history, Kept}
 use Rattle.writer_send_buffer.proofs.Lists.{slot-in}

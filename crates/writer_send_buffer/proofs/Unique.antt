@@ -10,7 +10,7 @@ use Rattle.numbers.proofs.One.{one1, one2, one3}
 use Rattle.writer_send_buffer.specs.declared.flow.WriterSendBuffer.{WriterSendBuffer}
 use Rattle.writer_send_buffer.specs.declared.flow.Told.{Told}
 use Rattle.writer_send_buffer.specs.declared.flow.Numbered.{Numbered}
-use Rattle.writer_send_buffer.specs.declared.frontiers.AckedFrontier.{AckedFrontier}
+use Rattle.reader_list.specs.declared.heads.AckedFrontier.{AckedFrontier}
 use Rattle.writer_send_buffer.specs.declared.samples.Admitted.{Admitted}
 use Rattle.writer_send_buffer.specs.Buffer.{ackedOf, sentOf, evictOf}
 use Rattle.writer_send_buffer.specs.Samples.{admitOf, handed}

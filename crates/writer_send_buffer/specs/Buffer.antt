@@ -8,13 +8,14 @@ use Rattle.numbers.specs.Promise.{Left1}
 use Rattle.numbers.specs.declared.answer.Answer.{Answer}
 use Rattle.numbers.specs.declared.answer.Rows.{Rows}
 use Rattle.numbers.specs.declared.sequence_number.SequenceNumber.{SequenceNumber}
+use Rattle.reader_list.specs.Slots.{frontierOf}
 use Rattle.writer_send_buffer.specs.declared.limits.Kind.{Kind}
 use Rattle.writer_send_buffer.specs.declared.limits.Limits.{Limits}
 use Rattle.writer_send_buffer.specs.declared.flow.WriterSendBuffer.{WriterSendBuffer}
 use Rattle.writer_send_buffer.specs.declared.flow.Told.{Told}
 use Rattle.writer_send_buffer.specs.declared.flow.Numbered.{Numbered}
 use Rattle.writer_send_buffer.specs.declared.flow.Moved.{Moved}
-use Rattle.writer_send_buffer.specs.declared.frontiers.AckedFrontier.{AckedFrontier}
+use Rattle.reader_list.specs.declared.heads.AckedFrontier.{AckedFrontier}
 use Rattle.writer_send_buffer.specs.declared.frontiers.Woken.{Woken}
 use Rattle.writer_send_buffer.specs.Flow.{Flow, allowed, counted, fits, blank, room, ahead, stored, wakes, raised, ackedThrough, evicted}
 
@@ -113,10 +114,6 @@ abbrev pub lastOf : WriterSendBuffer → Numbered
 lastOf f = questioned f noNumber (record { answer = done; number = f .last })
 
 -- FRONTIERS AND EVICTION
-
--- "raised to 1 at least"; 0 stands for an absent one
-abbrev pub frontierOf : AckedFrontier → ℕ
-frontierOf a = cond (a .present) (max 1 (rankOf (a .acked))) 0
 
 abbrev pub ackedOf : WriterSendBuffer → AckedFrontier → Left1 Told WriterSendBuffer
 ackedOf f a =

@@ -8,7 +8,7 @@ use Rattle.numbers.specs.Number.{rankOf}
 use Rattle.numbers.specs.Refusals.{isDone}
 use Rattle.numbers.specs.declared.sequence_number.SequenceNumber.{SequenceNumber}
 use Rattle.writer_send_buffer.specs.declared.flow.WriterSendBuffer.{WriterSendBuffer}
-use Rattle.writer_send_buffer.specs.declared.frontiers.AckedFrontier.{AckedFrontier}
+use Rattle.reader_list.specs.declared.heads.AckedFrontier.{AckedFrontier}
 use Rattle.writer_send_buffer.specs.Flow.{retained}
 use Rattle.writer_send_buffer.specs.Buffer.{view, ackedOf, sentOf, evictOf}
 use Rattle.writer_send_buffer.specs.Samples.{isCoherentStore, admitOf, fetchOf}

@@ -7,10 +7,10 @@ ghost use Rattle.writer_send_buffer.specs.Buffer.{view, form, isCoherent
 use crate::limits::Kind;
 use crate::limits::Limits;
 use crate::limits::above;
-use crate::limits::larger;
 use numbers::Answer;
 use numbers::Rows;
 use numbers::SequenceNumber;
+use reader_list::heads::larger;
 
 // The flow record. The payloads stand in a lent store beside it.
 #[repr(C)]

@@ -5,9 +5,9 @@ ghost use Rattle.writer_send_buffer.specs.Samples.{admitOf};
 use crate::flow::Numbered;
 use crate::flow::Told;
 use crate::flow::WriterSendBuffer;
-use crate::frontiers::AckedFrontier;
 use numbers::Answer;
 use numbers::SequenceNumber;
+use reader_list::AckedFrontier;
 
 impl WriterSendBuffer {
     pub fn admit(

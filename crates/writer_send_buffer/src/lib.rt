@@ -9,7 +9,6 @@ pub use flow::Moved;
 pub use flow::Numbered;
 pub use flow::Told;
 pub use flow::WriterSendBuffer;
-pub use frontiers::AckedFrontier;
 pub use frontiers::Woken;
 pub use limits::Kind;
 pub use limits::Limits;

@@ -6,7 +6,7 @@ use denote.Triple.Table.{entered, cited}
 use Rattle.lent.proofs.Plain.{moved, By2}
 use Rattle.lent.proofs.Lent.{lent}
 use Rattle.writer_send_buffer.specs.declared.flow.WriterSendBuffer.{WriterSendBuffer}
-use Rattle.writer_send_buffer.specs.declared.frontiers.AckedFrontier.{AckedFrontier}
+use Rattle.reader_list.specs.declared.heads.AckedFrontier.{AckedFrontier}
 use Rattle.writer_send_buffer.specs.declared.frontiers.Woken.{Woken}
 use Rattle.writer_send_buffer.specs.Buffer.{ackedOf, woken as wokenAs}
 use Rattle.writer_send_buffer.proofs.Cells.{flow, told, frontier, woken-flow}
