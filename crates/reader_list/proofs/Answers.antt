@@ -1,5 +1,5 @@
 -- What is answered once every slot is seen is what the definitions say of the list. Assumes nothing.
-use Prim.Native.Nat.{ℕ, _<_, _≤_, _^_}
+use Prim.Native.Nat.{ℕ, _<_, _^_}
 use mathlib.Core.Path.{_≡_, refl, sym, ap, _∙_}
 use mathlib.Core.Bool.{Bool, true, false, not, cond, _||_}
 use mathlib.Core.List.{List, foldl}
@@ -12,7 +12,6 @@ use Rattle.numbers.specs.Refusals.{answerOf, isDone, unless, done}
 use Rattle.numbers.specs.Promise.{Left1, Gives1}
 use Rattle.numbers.specs.declared.answer.Answer.{Answer}
 use Rattle.numbers.specs.declared.answer.Rows.{Rows}
-use Rattle.numbers.specs.declared.sequence_number.SequenceNumber.{SequenceNumber}
 use Rattle.reader_list.specs.declared.heads.ReaderHead.{ReaderHead}
 use Rattle.reader_list.specs.declared.calls.Match.{Match}
 use Rattle.reader_list.specs.declared.calls.Acked.{Acked}
@@ -22,7 +21,7 @@ use Rattle.reader_list.specs.declared.ends.Put.{Put}
 use Rattle.reader_list.specs.declared.walk.Ask.{Ask}
 use Rattle.reader_list.specs.declared.walk.Seen.{Seen}
 use Rattle.reader_list.specs.Readers.{frontier, placeOf, isThere}
-use Rattle.reader_list.specs.Slots.{readers, isCoherent, freeSlot, frontierAt, listed, unknown, taken, capAllowed, frontOf, foundOf, matchRows, matchOf, departOf, ackOf}
+use Rattle.reader_list.specs.Slots.{readers, isCoherent, freeSlot, frontierAt, listed, unknown, capAllowed, frontOf, foundOf, matchRows, matchOf, departOf, ackOf}
 use Rattle.reader_list.specs.Walk.{begun, seenStep, isWhole, isFound, hasFree, askFront, askFor, askMatch, askAcked, frontEnd, foundEnd, nowhere, matchEnd, departEnd, ackedEnd}
 use Rattle.reader_list.proofs.Gather.{whole-is, few-of, at-is, head-is, free-is, front-is, found-is, room-is, asked}
 

@@ -7,16 +7,16 @@ use native.Mathlib.Nat.{add-zero, zero-add}
 use native.Mathlib.Numerals.{add-one}
 use native.Mathlib.Omega.{arith}
 use lib.Dec.{ltb, leb, eqb}
-use lib.ListN.{length, take, getD, set, replicate, length-set, length-replicate}
+use lib.ListN.{length, take, getD, set, length-set, length-replicate}
 use lib.Seq.{take-suc-set}
 use borrow.Author.Tests.{lt-ltb, le-ltb, ltb-true, ltb-false, leb-true, leb-false}
 use Rattle.numbers.specs.Number.{rankOf}
 use Rattle.reader_list.specs.declared.heads.ReaderHead.{ReaderHead}
 use Rattle.reader_list.specs.declared.walk.Ask.{Ask}
 use Rattle.reader_list.specs.declared.walk.Seen.{Seen}
-use Rattle.reader_list.specs.Readers.{Head, meet, frontier, placeOf, isThere, slotFits, slotsFit, different, fits}
+use Rattle.reader_list.specs.Readers.{Head, meet, frontier, placeOf, isThere, slotFits, slotsFit, different}
 use Rattle.reader_list.specs.Slots.{headOf, readers, isCoherent, freeSlot}
-use Rattle.reader_list.specs.Walk.{isIn, distinct, begun, counted, placed, seenStep, isWhole, isFound, hasFree}
+use Rattle.reader_list.specs.Walk.{isIn, distinct, begun, counted, seenStep, isWhole, isFound, hasFree}
 use Rattle.reader_list.proofs.Ids.{and-assoc, and-true, and-false, and-left, and-right}
 
 -- ---- the ids

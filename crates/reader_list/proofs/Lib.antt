@@ -3,3 +3,6 @@ pub mod Ids
 pub mod Gather
 pub mod Answers
 pub mod Cells
+pub mod Kept
+pub mod Smallest
+pub mod Unique

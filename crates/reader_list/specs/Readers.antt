@@ -1,10 +1,10 @@
 -- The reader list on natural numbers, and document 01's steps on it. The promises of the code and the theorem about both ends cite these.
 -- A list has a fixed number of slots. A free slot is all zeros: readers have ids from 1 on.
 -- Every one computes. Assumes nothing.
-use Prim.Native.Nat.{ℕ, zero, suc, _+_, min, max}
+use Prim.Native.Nat.{ℕ, zero, suc, min, max}
 use mathlib.Core.Bool.{Bool, true, false, not, cond, _&&_, _||_}
 use mathlib.Core.List.{List, [], _∷_}
-use lib.Dec.{ltb, leb, eqb}
+use lib.Dec.{leb, eqb}
 use lib.ListN.{length, getD, set}
 
 pub record Head : Type 0 where

@@ -1,12 +1,11 @@
 -- `acked_end` meets its contract. Assumes nothing.
-use mathlib.Core.Path.{_≡_, ap, _∙_}
-use mathlib.Core.Bool.{Bool, false, not, _||_}
-use lib.Dec.{eqb}
-use Rattle.numbers.specs.Number.{negative, numberAt}
+use mathlib.Core.Path.{_≡_, _∙_}
+use mathlib.Core.Bool.{false}
+use Rattle.numbers.specs.Number.{negative}
 use Rattle.numbers.specs.Refusals.{answerOf, done}
 use Rattle.numbers.proofs.Refused.{is-refused, is-done}
-use Rattle.reader_list.specs.Slots.{listed, capAllowed, freeSlot, frontierAt}
-use Rattle.reader_list.specs.Walk.{isWhole, isFound, hasFree, notKnown, nowhere}
+use Rattle.reader_list.specs.Slots.{listed}
+use Rattle.reader_list.specs.Walk.{isWhole, notKnown, nowhere}
 use Rattle.reader_list.proofs.Ids.{is-0}
 use Rattle.reader_list.specs.declared.ends.Put.{Put}
 use borrow.Author.Needs.{needs}

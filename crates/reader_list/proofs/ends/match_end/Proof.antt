@@ -2,11 +2,11 @@
 use mathlib.Core.Path.{_≡_, ap, _∙_}
 use mathlib.Core.Bool.{Bool, false, not, _||_}
 use lib.Dec.{eqb}
-use Rattle.numbers.specs.Number.{negative, numberAt}
+use Rattle.numbers.specs.Number.{numberAt}
 use Rattle.numbers.specs.Refusals.{answerOf, done}
 use Rattle.numbers.proofs.Refused.{is-refused, is-done}
-use Rattle.reader_list.specs.Slots.{listed, capAllowed, freeSlot, frontierAt}
-use Rattle.reader_list.specs.Walk.{isWhole, isFound, hasFree, notKnown, nowhere}
+use Rattle.reader_list.specs.Slots.{listed, capAllowed}
+use Rattle.reader_list.specs.Walk.{isWhole, isFound, hasFree, nowhere}
 use Rattle.reader_list.proofs.Ids.{is-0}
 use Rattle.reader_list.specs.declared.ends.Put.{Put}
 use borrow.Author.Needs.{needs}

@@ -1,10 +1,10 @@
 -- `are_distinct` meets its contract. The invariant: what is fine, with what is left to look at, is the whole answer. Assumes nothing.
-use Prim.Native.Nat.{ℕ, _≤_, _<_, _+_, _-_}
+use Prim.Native.Nat.{_≤_, _-_}
 use mathlib.Core.Path.{_≡_, refl}
-use mathlib.Core.Bool.{_&&_, _||_}
+use mathlib.Core.Bool.{_&&_}
 use native.Mathlib.Omega.{arith}
 use lib.ListN.{length, drop}
-use Rattle.reader_list.specs.Walk.{isIn, distinct}
+use Rattle.reader_list.specs.Walk.{distinct}
 use Rattle.reader_list.proofs.Ids.{distinct-more, distinct-all}
 use borrow.Author.Needs.{needs}
 use Rattle.reader_list.proofs.walk.are_distinct.Statement.{statement}

@@ -1,5 +1,5 @@
 -- `head_on` meets its contract. Assumes nothing.
-use borrow.Author.Tests.{lt-ltb, le-ltb, eq-eqb, ne-eqb, not-true, not-false}
+use borrow.Author.Tests.{lt-ltb, le-ltb, eq-eqb, ne-eqb}
 use Rattle.reader_list.proofs.walk.head_on.Statement.{statement}
 use Rattle.reader_list.proofs.walk.head_on.Tie as tie
 

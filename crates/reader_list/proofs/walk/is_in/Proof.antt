@@ -1,10 +1,10 @@
 -- `is_in` meets its contract. The invariant: what is found, or left to find, is the whole answer. Assumes nothing.
-use Prim.Native.Nat.{ℕ, _≤_, _<_, _+_, _-_}
+use Prim.Native.Nat.{_≤_, _-_}
 use mathlib.Core.Path.{_≡_, refl}
-use mathlib.Core.Bool.{_&&_, _||_}
+use mathlib.Core.Bool.{_||_}
 use native.Mathlib.Omega.{arith}
 use lib.ListN.{length, drop}
-use Rattle.reader_list.specs.Walk.{isIn, distinct}
+use Rattle.reader_list.specs.Walk.{isIn}
 use Rattle.reader_list.proofs.Ids.{in-more, in-all}
 use Rattle.reader_list.proofs.walk.is_in.Statement.{statement}
 use Rattle.reader_list.proofs.walk.is_in.Tie as tie

@@ -2,7 +2,7 @@
 use Prim.Native.Nat.{ℕ, _≤_, min, max}
 use mathlib.Core.Path.{_≡_, ap, _∙_}
 use native.Mathlib.Omega.{arith}
-use borrow.Author.Tests.{lt-ltb, le-ltb, eq-eqb, ne-eqb, not-true, not-false}
+use borrow.Author.Tests.{not-true, not-false}
 use Rattle.numbers.specs.Number.{rankOf}
 use Rattle.reader_list.proofs.Ids.{meet-is}
 use borrow.Author.Needs.{needs}

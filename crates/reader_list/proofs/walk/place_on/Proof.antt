@@ -1,5 +1,5 @@
 -- `place_on` meets its contract. Assumes nothing.
-use borrow.Author.Tests.{lt-ltb, le-ltb, eq-eqb, ne-eqb, not-true, not-false}
+use borrow.Author.Tests.{lt-ltb, le-ltb}
 use borrow.Author.Needs.{needs}
 use Rattle.reader_list.proofs.walk.place_on.Statement.{statement}
 use Rattle.reader_list.proofs.walk.place_on.Tie as tie
