@@ -1,13 +1,14 @@
 -- The frontier is the smallest acked over the reliable readers, raised to 1 at least; absent, just where there is none. Assumes nothing.
-use Prim.Native.Nat.{ℕ, zero, suc, _≤_, min, max}
-use mathlib.Core.Path.{_≡_, refl, ap, _∙_}
+use Prim.Native.Nat.{ℕ, zero, suc, _<_, _≤_, min, max}
+use mathlib.Core.Path.{_≡_, refl, sym, ap, _∙_}
 use mathlib.Core.Bool.{Bool, true, false, cond, _||_}
 use mathlib.Core.Logic.{_⊎_, inl, inr}
 use mathlib.Core.List.{List, [], _∷_}
 use native.Mathlib.Omega.{arith}
 use lib.Dec.{ltb, eqb}
-use borrow.Author.Tests.{ltb-true, ltb-false}
+use borrow.Author.Tests.{lt-ltb, ltb-true, ltb-false, eqb-true, eqb-false}
 use lib.ListN.{getD, set}
+use Rattle.reader_list.specs.Slots.{frontierOf, frontierAt}
 use Rattle.reader_list.specs.Readers.{Head, free, meet, frontier, placeOf, isThere, matched}
 
 meet-low : (a b : ℕ) → 1 ≤ a → (1 ≤ meet a b) × (meet a b ≤ a)
@@ -83,3 +84,13 @@ match-lowers i (h ∷ hs) e = go (eqb (h .id) 0) e (match-lowers i hs)
         → frontier (set (h ∷ hs) (cond t 0 (suc (placeOf 0 hs))) (record { id = i; reliable = true; acked = 0 })) ≡ 1
     go true q r = one (frontier hs)
     go false q r = on (h .reliable) (r q)
+
+-- the frontier as a struct, read back
+pub frontier-back : (a : ℕ) → a < 9223372036854775808 → frontierOf (frontierAt a) ≡ a
+frontier-back a h = go (eqb a 0) refl
+  where
+    go : (t : Bool) → eqb a 0 ≡ t → frontierOf (frontierAt a) ≡ a
+    go true e = rw e (sym (eqb-true a 0 e))
+    go false e =
+        let n : a ≡ 0 → ⊥ = eqb-false a 0 e in
+        rw (e, lt-ltb a 9223372036854775808 h) (omega arith)

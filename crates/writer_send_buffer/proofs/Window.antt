@@ -53,6 +53,15 @@ trims-make-room f opted e = rw e
 pub trims-to-retain : (f : Flow) (opted : Bool) → Fits f → trims f opted ≡ true → admitted f opted .last + 1 - admitted f opted .first ≤ f .limits .retain
 trims-to-retain f opted h e = rw e (omega arith)
 
+-- a reliable writer trims nothing while a reliable reader is present: it may still have to repair
+pub no-trim-with-readers : (f : Flow) (opted : Bool) → f .kind .reliable ≡ true → f .present ≡ true → trims f opted ≡ false
+no-trim-with-readers f opted r p = go (f .kind .builtin) (f .kind .volatile) (f .kind .reliable) (f .present) r p
+  where
+    go : (b v r p : Bool) → r ≡ true → p ≡ true → (not b && (not (r || opted) || (r && (v && not p)))) ≡ false
+    go true v r p e q = refl
+    go false true r p e q = rw (e, q)
+    go false false r p e q = rw e
+
 -- the oldest go: what trimming keeps is the newest, without a hole
 pub trims-the-oldest : (f : Flow) (opted : Bool) → f .first ≤ admitted f opted .first
 trims-the-oldest f opted = go (trims f opted) refl

@@ -1,6 +1,6 @@
 -- The flow record as it is declared, and what each call on it leaves. Assumes nothing.
 use Prim.Native.Nat.{ℕ, max}
-use mathlib.Core.Bool.{Bool, false, not, cond, _&&_}
+use mathlib.Core.Bool.{Bool, true, false, not, cond, _&&_}
 use lib.Dec.{ltb}
 use Rattle.numbers.specs.Number.{rankOf, negative, numberAt}
 use Rattle.numbers.specs.Refusals.{unless, done}
@@ -32,29 +32,11 @@ isCoherent f = not (negative (f .last)) && (not (negative (f .sent)) && fits (vi
 
 -- THE ROWS
 
-abbrev pub limited : Bool → Rows
-limited limit =
+-- the rows that a call other than a write can meet: 13, 1, 2 and 14
+abbrev pub rowsOf : Bool → Bool → Bool → Bool → Rows
+rowsOf limit coherent range nothing =
     record {
       limit = limit;
-      incoherent = false;
-      bits = false;
-      range = false;
-      reader = false;
-      ahead = false;
-      payload = false;
-      «used_up» = false;
-      «would_block» = false;
-      «store_full» = false;
-      «readers_full» = false;
-      «gaps_full» = false;
-      «frags_full» = false;
-      nothing = false;
-    }
-
-abbrev pub ranged : Bool → Bool → Rows
-ranged coherent range =
-    record {
-      limit = false;
       incoherent = not coherent;
       bits = false;
       range = range;
@@ -67,8 +49,17 @@ ranged coherent range =
       «readers_full» = false;
       «gaps_full» = false;
       «frags_full» = false;
-      nothing = false;
+      nothing = nothing;
     }
+
+abbrev pub limited : Bool → Rows
+limited limit = rowsOf limit true false false
+
+abbrev pub ranged : Bool → Bool → Rows
+ranged coherent range = rowsOf false coherent range false
+
+abbrev pub fetched : Bool → Bool → Rows
+fetched coherent there = rowsOf false coherent false (not there)
 
 -- A NEW WRITER
 

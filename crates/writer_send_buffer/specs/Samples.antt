@@ -14,7 +14,7 @@ use Rattle.writer_send_buffer.specs.declared.flow.Numbered.{Numbered}
 use Rattle.writer_send_buffer.specs.declared.samples.Admitted.{Admitted}
 use Rattle.writer_send_buffer.specs.declared.samples.Located.{Located}
 use Rattle.writer_send_buffer.specs.Flow.{Flow, allOf, admitRows, admitted, retained}
-use Rattle.writer_send_buffer.specs.Buffer.{view, form, isCoherent, noNumber}
+use Rattle.writer_send_buffer.specs.Buffer.{view, form, isCoherent, noNumber, fetched}
 
 -- WHERE A SAMPLE STANDS
 
@@ -75,25 +75,6 @@ abbrev pub handed : Left3 Numbered WriterSendBuffer (List ℕ) (List ℕ) → Le
 handed o = record { result = record { numbered = o .result; flow = o .first }; first = o .second; second = o .third }
 
 -- FETCHING: "takes any number; a retained one shows exactly its bytes"
-
-abbrev pub fetched : Bool → Bool → Rows
-fetched coherent there =
-    record {
-      limit = false;
-      incoherent = not coherent;
-      bits = false;
-      range = false;
-      reader = false;
-      ahead = false;
-      payload = false;
-      «used_up» = false;
-      «would_block» = false;
-      «store_full» = false;
-      «readers_full» = false;
-      «gaps_full» = false;
-      «frags_full» = false;
-      nothing = not there;
-    }
 
 abbrev pub fetchRows : WriterSendBuffer → ℕ → List ℕ → SequenceNumber → Rows
 fetchRows f room lens n = fetched (isCoherentStore f room lens) (retained (rankOf n) (view f))

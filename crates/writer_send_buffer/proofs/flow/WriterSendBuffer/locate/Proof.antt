@@ -9,8 +9,8 @@ use Rattle.numbers.specs.Number.{rankOf}
 use Rattle.numbers.specs.Refusals.{answerOf, done}
 use Rattle.numbers.proofs.Refused.{clear, is-refused, is-done}
 use Rattle.writer_send_buffer.specs.declared.samples.Located.{Located}
-use Rattle.writer_send_buffer.specs.Buffer.{view}
-use Rattle.writer_send_buffer.specs.Samples.{fetched, fetchRows, startOf, slotOf}
+use Rattle.writer_send_buffer.specs.Buffer.{view, fetched}
+use Rattle.writer_send_buffer.specs.Samples.{fetchRows, startOf, slotOf}
 use Rattle.writer_send_buffer.proofs.Calls.{is-0}
 use Rattle.writer_send_buffer.proofs.Lists.{area, slot-in}
 use Rattle.writer_send_buffer.proofs.Sound.{fetches-is, slot-below}
