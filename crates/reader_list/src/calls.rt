@@ -25,6 +25,10 @@ pub struct Match {
     pub cap: u64,
 }
 
+impl Match {
+    pub const MOST_CAP: u64 = 1024;
+}
+
 // A reader's id, and the first number that it has not acknowledged.
 #[repr(C)]
 pub struct Acked {

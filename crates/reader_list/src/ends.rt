@@ -138,7 +138,7 @@ pub fn match_end(s: Seen) -> Put
     let free = s.free;
     let n = s.count;
     let whole = is_whole(s);
-    let limit = !((1 <= cap) & (cap <= 1024));
+    let limit = !((1 <= cap) & (cap <= Match::MOST_CAP));
     let answer = list_answer(limit, whole, false, (id == 0) | (at < n), !(free < n));
     if answer.number != 0 {
         return put_nowhere(answer);

@@ -19,6 +19,11 @@ pub struct AckedFrontier {
     pub acked: SequenceNumber,
 }
 
+impl ReaderHead {
+    // The most readers that a list has slots for.
+    pub const MOST: usize = 64;
+}
+
 pub fn larger(a: u64, b: u64) -> u64
     ensures { λ r. ⌜ r ≡ max a b ⌝ }
 {

@@ -161,7 +161,7 @@ pub fn see(s: Seen, h: ReaderHead) -> Seen
     t.head = head_on(s, h);
     t.free = place_on(s.free, n, h.id == 0);
     t.front = met(s.front, h);
-    if n < 64 {
+    if n < ReaderHead::MOST {
         t.ids[n] = h.id;
         return t;
     }
@@ -174,9 +174,9 @@ pub fn is_whole(s: Seen) -> bool
 {
     let ids = s.ids;
     let n = s.count;
-    if 64 < n {
+    if ReaderHead::MOST < n {
         return false;
     }
     let different = are_distinct(&ids[..n]);
-    (1 <= n) & ((n <= 64) & (s.clean & different))
+    (1 <= n) & ((n <= ReaderHead::MOST) & (s.clean & different))
 }

@@ -9,3 +9,4 @@ pub mod Kept
 pub mod Cells
 pub mod Table
 pub mod Unique
+pub mod Coherent

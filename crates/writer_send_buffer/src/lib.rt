@@ -1,9 +1,9 @@
 // A writer's send buffer: the flow record and admission, and the retained samples in a lent store.
-pub mod flow;
-pub mod frontiers;
-pub mod in_place;
-pub mod limits;
-pub mod samples;
+mod flow;
+mod frontiers;
+mod in_place;
+mod limits;
+mod samples;
 
 pub use flow::Moved;
 pub use flow::Numbered;
