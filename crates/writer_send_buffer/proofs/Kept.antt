@@ -8,24 +8,22 @@ use native.Mathlib.Omega.{arith}
 use lib.Dec.{ltb, leb}
 use lib.ListN.{length, getD, set, length-set, length-append, List·getD-append}
 use lib.Seq.{getD-set-same, getD-set-other, getD-append-seam}
-use borrow.Author.Tests.{le-leb, leb-true, eq-eqb, eqb-true, not-false}
+use borrow.Author.Tests.{le-leb, leb-true, eq-eqb, eqb-true}
 use Rattle.numbers.specs.Number.{rankOf}
-use Rattle.numbers.specs.Refusals.{answerOf, isDone, unless, done}
-use Rattle.numbers.specs.Promise.{Left1}
+use Rattle.numbers.specs.Refusals.{answerOf, isDone, done}
 use Rattle.numbers.specs.declared.answer.Answer.{Answer}
-use Rattle.numbers.specs.declared.answer.Rows.{Rows}
 use Rattle.numbers.specs.declared.sequence_number.SequenceNumber.{SequenceNumber}
 use Rattle.numbers.proofs.Refused.{clear}
 use Rattle.writer_send_buffer.specs.declared.flow.WriterSendBuffer.{WriterSendBuffer}
 use Rattle.writer_send_buffer.specs.Flow.{Flow, fits, usedUp, admitted, trimmed, retained, ahead, stored, wakes, raised, evicted}
 use Rattle.reader_list.specs.Slots.{frontierOf}
-use Rattle.writer_send_buffer.specs.Buffer.{view, form, isCoherent, ranged, toldNo}
+use Rattle.writer_send_buffer.specs.Buffer.{view, form, toldNo}
 use Rattle.writer_send_buffer.specs.Samples.{slotOf, bytesOf, over, lengthsFit, storeRows, isCoherentStore, writeRows, fetchOf}
 use Rattle.writer_send_buffer.specs.History.{Lent, Call, admit, setAcked, setSent, removeBefore, leaves, wrote, run, history, Kept}
 use Rattle.writer_send_buffer.proofs.Lists.{slot-in}
 use Rattle.writer_send_buffer.proofs.Slots.{lt-or-ge, apart, over-length, over-same, over-other}
-use Rattle.writer_send_buffer.proofs.Sound.{holds, all-hold, and-left, and-right, and-both, Fits, coherent-is, Sound, sound-is, Writes, writes-is, slot-below, next-slot, length-fits, fit-of}
-use Rattle.writer_send_buffer.proofs.Steps.{view-form, form-coherent, After, after, fits-admitted, fits-stored, fits-raised, fits-evicted}
+use Rattle.writer_send_buffer.proofs.Sound.{holds, all-hold, and-left, and-right, and-both, Fits, Sound, sound-is, Writes, writes-is, slot-below, next-slot, length-fits, fit-of}
+use Rattle.writer_send_buffer.proofs.Steps.{by-range, leftBy, view-form, form-coherent, After, after, fits-admitted, fits-stored, fits-raised, fits-evicted}
 
 -- ---- a retained sample of a coherent store is shown
 shown-kept : (f : WriterSendBuffer) (s lens : List ℕ) (n : SequenceNumber) → isCoherentStore f (length s) lens ≡ true → retained (rankOf n) (view f) ≡ true → fetchOf f s lens n ≡ bytesOf (view f) s lens (rankOf n)
@@ -173,12 +171,12 @@ module _ (l : Lent) (p : List ℕ) (opted : Bool) (w : Writes (l .flow) (length 
         }
 
 -- ---- a step that leaves the store, the last number and the limits, and only moves the first on
-module _ (l : Lent) (h : List (List ℕ)) (k : Kept l h) (g : Flow) (gf : Fits g) (on : view (l .flow) .first ≤ g .first) (same : g .last ≡ view (l .flow) .last) (limits : g .limits ≡ l .flow .limits) where
+module _ (l : Lent) (c : isCoherentStore (l .flow) (length (l .bytes)) (l .lens) ≡ true) (g : Flow) (gf : Fits g) (on : view (l .flow) .first ≤ g .first) (same : g .last ≡ view (l .flow) .last) (limits : g .limits ≡ l .flow .limits) where
   abbrev e : WriterSendBuffer
   e = l .flow
 
   so : Sound e (length (l .bytes)) (l .lens)
-  so = sound-is e (length (l .bytes)) (l .lens) (k .coherent)
+  so = sound-is e (length (l .bytes)) (l .lens) c
 
   eyed : view (form g) ≡ g
   eyed = view-form g gf
@@ -193,14 +191,14 @@ module _ (l : Lent) (h : List (List ℕ)) (k : Kept l h) (g : Flow) (gf : Fits g
 
   moved-coherent : isCoherentStore (form g) (length (l .bytes)) (l .lens) ≡ true
   moved-coherent =
-      let r = holds (storeRows e (length (l .bytes)) (l .lens)) (k .coherent) in
+      let r = holds (storeRows e (length (l .bytes)) (l .lens)) c in
       all-hold (storeRows (form g) (length (l .bytes)) (l .lens)) (form-coherent g gf, (rw limits (r 1), (rw limits (r 2), (fit, tt))))
     where
       fit : lengthsFit (l .lens) (length (l .lens)) (g .limits .«slot_bytes») (view (form g) .first - 1) (view (form g) .last + 1 - view (form g) .first) ≡ true
       fit = rw limits (subst (λ (u : Flow). lengthsFit (l .lens) (length (l .lens)) (e .limits .«slot_bytes») (u .first - 1) (u .last + 1 - u .first) ≡ true) (sym eyed) moved-fit)
 
-  kept-moved : Kept (record { flow = form g; bytes = l .bytes; lens = l .lens }) h
-  kept-moved =
+  kept-moved : (h : List (List ℕ)) → Kept l h → Kept (record { flow = form g; bytes = l .bytes; lens = l .lens }) h
+  kept-moved h k =
       record {
         coherent = moved-coherent;
         numbered = k .numbered ∙ sym same ∙ sym (ap (λ (u : Flow). u .last) eyed);
@@ -215,29 +213,19 @@ module _ (l : Lent) (h : List (List ℕ)) (k : Kept l h) (g : Flow) (gf : Fits g
       }
 
 -- ---- a call, and a run of calls
+abbrev Coh : Lent → WriterSendBuffer → Type 0
+Coh l f = isCoherentStore f (length (l .bytes)) (l .lens) ≡ true
+
 abbrev Ok : Lent → List (List ℕ) → WriterSendBuffer → Type 0
 Ok l h f = Kept (record { flow = f; bytes = l .bytes; lens = l .lens }) h
 
 -- a call that moves a frontier or the first, refused or not
-module _ {A : Type 0} (no : Answer → A) (ok : A) (l : Lent) (h : List (List ℕ)) (k : Kept l h) (out : Bool) (g : Flow) (fine : Fits (view (l .flow)) → out ≡ false → Fits g) (on : view (l .flow) .first ≤ g .first) (same : g .last ≡ view (l .flow) .last) (limits : g .limits ≡ l .flow .limits) where
-  abbrev given : Left1 A WriterSendBuffer
-  given = record { result = ok; first = form g }
+module _ {A : Type 0} (say : Answer → A) (ok : A) (l : Lent) (out : Bool) (g : Flow) (fine : Fits (view (l .flow)) → out ≡ false → Fits g) (on : view (l .flow) .first ≤ g .first) (same : g .last ≡ view (l .flow) .last) (limits : g .limits ≡ l .flow .limits) where
+  kept-ranged : (h : List (List ℕ)) → Kept l h → Ok l h (leftBy (Ok l h) say ok (l .flow) out g .first)
+  kept-ranged h k = by-range (Ok l h) say ok (l .flow) out g k (λ v e. kept-moved l (k .coherent) g (fine v e) on same limits h k)
 
-  abbrev kept-back : Answer → Left1 A WriterSendBuffer
-  kept-back n = record { result = no n; first = l .flow }
-
-  abbrev rows : Rows
-  rows = ranged (isCoherent (l .flow)) out
-
-  kept-ranged : Ok l h (unless rows kept-back given .first)
-  kept-ranged = go (isDone (answerOf rows)) refl
-    where
-      go : (t : Bool) → isDone (answerOf rows) ≡ t → Ok l h (cond t given (kept-back (answerOf rows)) .first)
-      go true d =
-          let c = clear rows (answerOf rows) refl (eqb-true _ _ d) in
-          let co = coherent-is (l .flow) (not-false _ (c .incoherent)) in
-          kept-moved l h k g (fine (co .numbers) (c .range)) on same limits
-      go false d = k
+  coherent-ranged : Coh l (l .flow) → Coh l (leftBy (Coh l) say ok (l .flow) out g .first)
+  coherent-ranged c = by-range (Coh l) say ok (l .flow) out g c (λ v e. moved-coherent l c g (fine v e) on same limits)
 
 kept-step : (l : Lent) (h : List (List ℕ)) → Kept l h → (c : Call) → Kept (leaves c l) (wrote c l h)
 kept-step l h k (admit p opted) = go (isDone (answerOf (writeRows (l .flow) (length (l .bytes)) (l .lens) (length p) opted))) refl
@@ -247,9 +235,28 @@ kept-step l h k (admit p opted) = go (isDone (answerOf (writeRows (l .flow) (len
         let w = writes-is (l .flow) (length (l .bytes)) (l .lens) (length p) opted (clear (writeRows (l .flow) (length (l .bytes)) (l .lens) (length p) opted) (answerOf (writeRows (l .flow) (length (l .bytes)) (l .lens) (length p) opted)) refl (eqb-true _ _ e)) in
         rw (e, next-slot (view (l .flow)) (view (l .flow) .last)) (kept-write l p opted w h k)
     go false e = rw (e, e) k
-kept-step l h k (setAcked a) = kept-ranged toldNo (record { answer = done; yes = wakes (frontierOf a) (view (l .flow)) }) l h k (ahead (frontierOf a) (view (l .flow))) (stored (frontierOf a) (view (l .flow))) (λ v e. fits-stored (view (l .flow)) v (frontierOf a) e) (omega arith) refl refl
-kept-step l h k (setSent n) = kept-ranged toldNo (record { answer = done; yes = ltb (rankOf (l .flow .sent)) (rankOf n) }) l h k (ltb (rankOf (l .flow .last)) (rankOf n)) (raised (rankOf n) (view (l .flow))) (λ v e. fits-raised (view (l .flow)) v (rankOf n) e) (omega arith) refl refl
-kept-step l h k (removeBefore n) = kept-ranged (λ a. a) done l h k (ahead (rankOf n) (view (l .flow))) (evicted (rankOf n) (view (l .flow))) (λ v e. fits-evicted (view (l .flow)) v (rankOf n) e) (omega arith) refl refl
+kept-step l h k (setAcked a) =
+    kept-ranged toldNo (record { answer = done; yes = wakes (frontierOf a) (view (l .flow)) }) l (ahead (frontierOf a) (view (l .flow))) (stored (frontierOf a) (view (l .flow))) (λ v e. fits-stored (view (l .flow)) v (frontierOf a) e) (omega arith) refl refl h k
+kept-step l h k (setSent n) =
+    kept-ranged toldNo (record { answer = done; yes = ltb (rankOf (l .flow .sent)) (rankOf n) }) l (ltb (rankOf (l .flow .last)) (rankOf n)) (raised (rankOf n) (view (l .flow))) (λ v e. fits-raised (view (l .flow)) v (rankOf n) e) (omega arith) refl refl h k
+kept-step l h k (removeBefore n) =
+    kept-ranged (λ a. a) done l (ahead (rankOf n) (view (l .flow))) (evicted (rankOf n) (view (l .flow))) (λ v e. fits-evicted (view (l .flow)) v (rankOf n) e) (omega arith) refl refl h k
+
+-- COHERENCE IS KEPT by every call, whatever was written before
+pub coherent-step : (l : Lent) → Coh l (l .flow) → (c : Call) → Coh (leaves c l) (leaves c l .flow)
+coherent-step l k (admit p opted) = go (isDone (answerOf (writeRows (l .flow) (length (l .bytes)) (l .lens) (length p) opted))) refl
+  where
+    go : (t : Bool) → isDone (answerOf (writeRows (l .flow) (length (l .bytes)) (l .lens) (length p) opted)) ≡ t → Coh (leaves (admit p opted) l) (leaves (admit p opted) l .flow)
+    go true e =
+        let w = writes-is (l .flow) (length (l .bytes)) (l .lens) (length p) opted (clear (writeRows (l .flow) (length (l .bytes)) (l .lens) (length p) opted) (answerOf (writeRows (l .flow) (length (l .bytes)) (l .lens) (length p) opted)) refl (eqb-true _ _ e)) in
+        rw (e, next-slot (view (l .flow)) (view (l .flow) .last)) (coherent l p opted w)
+    go false e = rw e k
+coherent-step l k (setAcked a) =
+    coherent-ranged toldNo (record { answer = done; yes = wakes (frontierOf a) (view (l .flow)) }) l (ahead (frontierOf a) (view (l .flow))) (stored (frontierOf a) (view (l .flow))) (λ v e. fits-stored (view (l .flow)) v (frontierOf a) e) (omega arith) refl refl k
+coherent-step l k (setSent n) =
+    coherent-ranged toldNo (record { answer = done; yes = ltb (rankOf (l .flow .sent)) (rankOf n) }) l (ltb (rankOf (l .flow .last)) (rankOf n)) (raised (rankOf n) (view (l .flow))) (λ v e. fits-raised (view (l .flow)) v (rankOf n) e) (omega arith) refl refl k
+coherent-step l k (removeBefore n) =
+    coherent-ranged (λ a. a) done l (ahead (rankOf n) (view (l .flow))) (evicted (rankOf n) (view (l .flow))) (λ v e. fits-evicted (view (l .flow)) v (rankOf n) e) (omega arith) refl refl k
 
 -- over any run of calls
 pub kept : (cs : List Call) (l : Lent) (h : List (List ℕ)) → Kept l h → Kept (run cs l) (history cs l h)

@@ -5,14 +5,18 @@ use mathlib.Core.Bool.{Bool, true, false, not, cond, _&&_}
 use native.Mathlib.Omega.{arith}
 use lib.IntN.{ℤ, pos, negsuc}
 use lib.Dec.{leb, ltb, eqb}
-use borrow.Author.Tests.{lt-ltb, leb-false, ltb-false, eqb-false}
+use borrow.Author.Tests.{eqb-false, eqb-true, leb-false, lt-ltb, ltb-false, not-false}
 use Rattle.numbers.specs.Number.{rankOf, negative, numberAt, below0, natOf}
+use Rattle.numbers.specs.Refusals.{answerOf, isDone, unless}
+use Rattle.numbers.specs.Promise.{Left1}
+use Rattle.numbers.specs.declared.answer.Answer.{Answer}
 use Rattle.numbers.specs.declared.sequence_number.SequenceNumber.{SequenceNumber}
+use Rattle.numbers.proofs.Refused.{clear}
 use Rattle.writer_send_buffer.specs.declared.limits.Kind.{Kind}
 use Rattle.writer_send_buffer.specs.declared.limits.Limits.{Limits}
 use Rattle.writer_send_buffer.specs.declared.flow.WriterSendBuffer.{WriterSendBuffer}
 use Rattle.writer_send_buffer.specs.Flow.{Flow, allowed, fits, blank, trims, full, usedUp, trimmed, admitted, ahead, stored, raised, evicted}
-use Rattle.writer_send_buffer.specs.Buffer.{view, form, isCoherent}
+use Rattle.writer_send_buffer.specs.Buffer.{view, form, isCoherent, ranged}
 use Rattle.writer_send_buffer.proofs.Sound.{Fits, Allowed, allowed-is, is-fits, coherent-is, and-both}
 
 -- ---- numbers
@@ -161,3 +165,18 @@ module _ (f : Flow) (h : Fits f) where
         acked-in = h .acked-in;
         are-allowed = h .are-allowed;
       }
+
+-- what holds of a record and of what a step makes of it holds of what the call leaves, refused or not
+module _ {A : Type 0} (P : WriterSendBuffer → Type 0) (say : Answer → A) (ok : A) (f : WriterSendBuffer) (out : Bool) (g : Flow) where
+  abbrev pub leftBy : Left1 A WriterSendBuffer
+  leftBy = unless (ranged (isCoherent f) out) (λ a. record { result = say a; first = f }) (record { result = ok; first = form g })
+
+  pub by-range : P f → (Fits (view f) → out ≡ false → P (form g)) → P (leftBy .first)
+  by-range p q = go (isDone (answerOf (ranged (isCoherent f) out))) refl
+    where
+      go : (t : Bool) → isDone (answerOf (ranged (isCoherent f) out)) ≡ t
+          → P (cond {A = Left1 A WriterSendBuffer} t (record { result = ok; first = form g }) (record { result = say (answerOf (ranged (isCoherent f) out)); first = f }) .first)
+      go true d =
+          let c = clear (ranged (isCoherent f) out) (answerOf (ranged (isCoherent f) out)) refl (eqb-true _ _ d) in
+          q (coherent-is f (not-false _ (c .incoherent)) .numbers) (c .range)
+      go false d = p

@@ -1,6 +1,5 @@
 -- The flow record as it is declared, and what each call on it leaves. Assumes nothing.
-use Prim.Native.Nat.{ℕ, max}
-use mathlib.Core.Bool.{Bool, true, false, not, cond, _&&_}
+use mathlib.Core.Bool.{Bool, true, false, not, _&&_}
 use lib.Dec.{ltb}
 use Rattle.numbers.specs.Number.{rankOf, negative, numberAt}
 use Rattle.numbers.specs.Refusals.{unless, done}

@@ -1,6 +1,6 @@
 -- The retained samples in a lent store, and what the calls on it leave. A lent room beside it has the samples' lengths. Assumes nothing.
 use Prim.Native.Nat.{ℕ, zero, suc, _+_, _-_, _*_, _%_, _<_, _≤_}
-use mathlib.Core.Bool.{Bool, true, false, not, _&&_}
+use mathlib.Core.Bool.{Bool, true, _&&_}
 use mathlib.Core.List.{List, [], _∷_, _++_}
 use lib.ListN.{length, take, drop, getD, set}
 use lib.Dec.{leb, eqb}
