@@ -2,7 +2,7 @@
 ghost use mathlib.Core.Path.{_≡_};
 ghost use mathlib.Core.Bool.{cond, not, _&&_, _||_};
 ghost use Prim.Native.Nat.{max};
-ghost use lib.Dec.{ltb, eqb};
+ghost use lib.Dec.{ltb};
 ghost use Rattle.reader_list.specs.Readers.{meet, slotFits};
 ghost use Rattle.reader_list.specs.Slots.{headOf, freeSlot};
 ghost use Rattle.reader_list.specs.Walk.{isIn, distinct, begun, counted, placed, seenStep, isWhole};
@@ -104,15 +104,13 @@ fn slot_fits(h: ReaderHead) -> bool
     !(id == 0) | (!h.reliable & (n == 0))
 }
 
-fn head_on(s: Seen, h: ReaderHead) -> ReaderHead
-    ensures { λ r. ⌜ r ≡ cond (ltb (s .at) (s .count)) (s .head) (cond (eqb (h .id) (s .ask .id)) h (s .head)) ⌝ }
+fn head_on(at: usize, n: usize, hit: bool, old: ReaderHead, h: ReaderHead) -> ReaderHead
+    ensures { λ r. ⌜ r ≡ cond (ltb at n) old (cond hit h old) ⌝ }
 {
-    let old = s.head;
-    let ask = s.ask;
-    if s.at < s.count {
+    if at < n {
         return old;
     }
-    if h.id == ask.id {
+    if hit {
         return h;
     }
     old
@@ -153,12 +151,13 @@ pub fn see(s: Seen, h: ReaderHead) -> Seen
 {
     let n = s.count;
     let ask = s.ask;
+    let old = s.head;
     let fits = slot_fits(h);
     let mut t = s;
     t.count = count_on(n);
     t.clean = s.clean & fits;
     t.at = place_on(s.at, n, h.id == ask.id);
-    t.head = head_on(s, h);
+    t.head = head_on(s.at, n, h.id == ask.id, old, h);
     t.free = place_on(s.free, n, h.id == 0);
     t.front = met(s.front, h);
     if n < ReaderHead::MOST {

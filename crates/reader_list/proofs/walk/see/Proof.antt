@@ -29,10 +29,10 @@ element-write-t : tie.Need-element-write-t
 element-write-t c = search needs
 
 returns : tie.Need-returns
-returns c = rw (c .before .met .ensures, c .before .before .place-on2 .ensures, c .before .before .before .before .head-on .ensures, c .before .before .before .before .before .place-on .ensures, c .before .before .before .before .before .before .before .before .before .count-on .ensures, c .before .before .before .before .before .before .before .before .before .before .slot-fits .ensures, lt-ltb _ 64 (c .if1 .taken))
+returns c = rw (c .before .met .ensures, c .before .before .place-on2 .ensures, c .before .before .before .before .head-on .ensures, c .before .before .before .before .before .before .before .place-on .ensures, c .before .before .before .before .before .before .before .before .before .before .before .count-on .ensures, c .before .before .before .before .before .before .before .before .before .before .before .before .slot-fits .ensures, lt-ltb _ 64 (c .if1 .taken))
 
 returns-2 : tie.Need-returns-2
-returns-2 c = rw (c .before .met .ensures, c .before .before .place-on2 .ensures, c .before .before .before .before .head-on .ensures, c .before .before .before .before .before .place-on .ensures, c .before .before .before .before .before .before .before .before .before .count-on .ensures, c .before .before .before .before .before .before .before .before .before .before .slot-fits .ensures, le-ltb _ 64 (c .if1 .left))
+returns-2 c = rw (c .before .met .ensures, c .before .before .place-on2 .ensures, c .before .before .before .before .head-on .ensures, c .before .before .before .before .before .before .before .place-on .ensures, c .before .before .before .before .before .before .before .before .before .before .before .count-on .ensures, c .before .before .before .before .before .before .before .before .before .before .before .before .slot-fits .ensures, le-ltb _ 64 (c .if1 .left))
 
 pub see-spec : {M : Type 1} → statement M
 see-spec =
