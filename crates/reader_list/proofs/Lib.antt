@@ -6,3 +6,4 @@ pub mod Cells
 pub mod Kept
 pub mod Smallest
 pub mod Unique
+pub mod Frontiers
