@@ -1,7 +1,7 @@
 -- `rank` meets its contract. Assumes nothing.
 use borrow.Author.Needs.{needs}
-use Rattle.writer_send_buffer.proofs.frontiers.AckedFrontier.rank.Statement.{statement}
-use Rattle.writer_send_buffer.proofs.frontiers.AckedFrontier.rank.Tie as tie
+use Rattle.reader_list.proofs.heads.AckedFrontier.rank.Statement.{statement}
+use Rattle.reader_list.proofs.heads.AckedFrontier.rank.Tie as tie
 
 rank-requires : tie.Need-rank-requires
 rank-requires c κs = search needs
