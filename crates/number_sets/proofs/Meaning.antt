@@ -11,7 +11,7 @@ use lib.ListN.{length}
 use borrow.Author.Tests.{leb-true, leb-false, ltb-true, ltb-false, le-leb, lt-leb, lt-ltb, le-ltb, eqb-true, eqb-false}
 use Rattle.sets.specs.Sets.{has, From, union, only, between, those}
 use Rattle.sets.proofs.Bools.{decide, and-left, and-right, clash, and-no}
-use Rattle.sets.proofs.Has.{has-between, has-union, From-only, From-union, From-low, From-weak}
+use Rattle.sets.proofs.Has.{has-between, has-only, has-union, From-only, From-union, From-low, From-weak}
 use Rattle.sets.proofs.Ext.{ext, union-nil}
 use Rattle.sets.proofs.Those.{From-those, those-length}
 use Rattle.numbers.specs.declared.sequence_number.SequenceNumber.{SequenceNumber}
@@ -157,3 +157,19 @@ members-these b ns f top = made-members (rankOf b) ns f top
 
 pub members-these-fragments : (b : FragmentNumber) (ns : List ℕ) → From (b .0) ns → ((n : ℕ) → has ns n ≡ true → n < b .0 + 256) → members (fragmentSet (theseFragments b ns)) ≡ ns
 members-these-fragments b ns f top = made-members (b .0) ns f top
+
+-- with no end that a member reaches, those from n on
+pub onward-all : (z : NumberSet) (n top : ℕ) → z .base + z .count ≤ top → between n top (members z) ≡ only (leb n) (members z)
+onward-all z n top h =
+    ext (z .base) (z .base) (between n top (members z)) (only (leb n) (members z)) (From-only (z .base) (λ m. leb n m && leb m top) (members z) (members-rise z)) (From-only (z .base) (leb n) (members z) (members-rise z))
+    (λ m. has-between n top (members z) m ∙ go m (decide (has (members z) m)) ∙ sym (has-only (leb n) (members z) m))
+  where
+    go : (m : ℕ) → (has (members z) m ≡ true) ⊎ (has (members z) m ≡ false) → ((leb n m && leb m top) && has (members z) m) ≡ (leb n m && has (members z) m)
+    go m (inr e) = rw (e, and-no (leb n m && leb m top), and-no (leb n m)) refl
+    go m (inl e) =
+        let b = member-bit z m e in
+        rw (le-leb m top (omega (arith, b .1, b .2)), e) (and-yes (leb n m))
+      where
+        and-yes : (t : Bool) → ((t && true) && true) ≡ (t && true)
+        and-yes true = refl
+        and-yes false = refl

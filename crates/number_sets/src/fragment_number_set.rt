@@ -1,10 +1,15 @@
 // A set of fragment numbers as RTPS writes it. As natural numbers it is a set of sequence numbers with a small base, and is read and written as that.
 ghost use mathlib.Core.Path.{_≡_};
+ghost use mathlib.Core.Bool.{not};
+ghost use Prim.Native.Nat.{_<_};
+ghost use lib.Dec.{leb};
 ghost use lib.ListN.{length};
+ghost use Rattle.sets.specs.Sets.{only, empty};
 ghost use Rattle.numbers.specs.Promise.{Gives1};
 ghost use Rattle.number_sets.specs.Bits.{members};
-ghost use Rattle.number_sets.specs.Calls.{fragmentSet, fragmentRows, listed, nextFragmentMember, ofFragments, wideNumber, wideSet};
+ghost use Rattle.number_sets.specs.Calls.{fragmentSet, fragmentRows, listed, nextRank, nextFragmentMember, ofFragments, wideNumber, wideSet};
 use crate::sequence_number_set::Listed;
+use crate::sequence_number_set::NextRank;
 use crate::sequence_number_set::SequenceNumberSet;
 use numbers::Answer;
 use numbers::Cursor;
@@ -35,6 +40,14 @@ fn wide(n: FragmentNumber) -> SequenceNumber
     SequenceNumber(n as i64)
 }
 
+// The natural number, and that it is below 2 ^ 32.
+fn narrow(n: FragmentNumber) -> u64
+    ensures { λ r. ⌜ (r ≡ n .0) × (r < 4294967296) ⌝ }
+{
+    let n = n.0;
+    n as u64
+}
+
 impl FragmentNumberSet {
     // The same numbers, as sequence numbers.
     fn widened(self) -> SequenceNumberSet
@@ -53,16 +66,33 @@ impl FragmentNumberSet {
         self.widened().list_members(out)
     }
 
+    // The smallest member from `from` through `top`, whatever these are.
+    pub fn next_rank(self, from: u64, top: u64) -> NextRank
+        ensures { λ r. ⌜ r ≡ nextRank (fragmentSet self) from top ⌝ }
+    {
+        self.widened().next_rank(from, top)
+    }
+
     // The smallest member at or after the cursor, and the cursor past it.
     pub fn next_member(self, at: Cursor) -> NextFragment
         ensures { λ r. ⌜ r ≡ nextFragmentMember self at ⌝ }
     {
-        let next = self.widened().next_rank(at.from, 4294967295);
+        let next = self.next_rank(at.from, 4294967295);
         let count = self.count;
         let mut rows = Rows::none();
         rows.bits = 256 < count;
         rows.nothing = next.none;
         NextFragment::of(rows, next.rank)
+    }
+
+    // Whether any member is n or more.
+    pub fn reaches(self, n: u64) -> bool
+        ensures { λ r. ⌜ r ≡ not (empty (only (leb n) (members (fragmentSet self)))) ⌝ }
+    {
+        // No member is as large as this.
+        let end = narrow(self.base) + self.count as u64;
+        let next = self.next_rank(n, end);
+        !next.none
     }
 
     // How many members there are.

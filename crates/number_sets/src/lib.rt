@@ -6,5 +6,6 @@ pub mod words;
 pub use fragment_number_set::FragmentNumberSet;
 pub use fragment_number_set::WrittenFragments;
 pub use sequence_number_set::Listed;
+pub use sequence_number_set::NextRank;
 pub use sequence_number_set::SequenceNumberSet;
 pub use sequence_number_set::WrittenNumbers;

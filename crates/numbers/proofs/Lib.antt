@@ -2,4 +2,5 @@
 pub mod Signed
 pub mod Refused
 pub mod Ranks
+pub mod Next
 pub mod One

@@ -1,10 +1,10 @@
 -- The reader list on natural numbers, and document 01's steps on it. The promises of the code and the theorem about both ends cite these.
 -- A list has a fixed number of slots. A free slot is all zeros: readers have ids from 1 on.
 -- Every one computes. Assumes nothing.
-use Prim.Native.Nat.{ℕ, zero, suc, _+_, min, max}
+use Prim.Native.Nat.{ℕ, zero, suc, min, max}
 use mathlib.Core.Bool.{Bool, true, false, not, cond, _&&_, _||_}
 use mathlib.Core.List.{List, [], _∷_}
-use lib.Dec.{ltb, leb, eqb}
+use lib.Dec.{leb, eqb}
 use lib.ListN.{length, getD, set}
 
 pub record Head : Type 0 where
@@ -35,8 +35,10 @@ abbrev pub placeOf : ℕ → List Head → ℕ
 placeOf i [] = 0
 placeOf i (h ∷ hs) = cond (eqb (h .id) i) 0 (suc (placeOf i hs))
 
+-- whether a slot has the id
 abbrev pub isThere : ℕ → List Head → Bool
-isThere i hs = ltb (placeOf i hs) (length hs)
+isThere i [] = false
+isThere i (h ∷ hs) = eqb (h .id) i || isThere i hs
 
 abbrev pub headAt : ℕ → List Head → Head
 headAt i hs = getD hs (placeOf i hs) free
@@ -65,11 +67,11 @@ abbrev pub slotsFit : List Head → Bool
 slotsFit [] = true
 slotsFit (h ∷ hs) = slotFits h && slotsFit hs
 
--- no other slot has the id, unless it is free
+-- no other slot has the same id, unless it is free
 abbrev pub different : List Head → Bool
 different [] = true
 different (h ∷ hs) = (eqb (h .id) 0 || not (isThere (h .id) hs)) && different hs
 
 -- "ids at least 1, all different", in 1 to 64 slots
 abbrev pub fits : List Head → Bool
-fits hs = (leb 1 (length hs) && leb (length hs) 64) && (slotsFit hs && different hs)
+fits hs = leb 1 (length hs) && (leb (length hs) 64 && (slotsFit hs && different hs))

@@ -4,7 +4,7 @@ use Prim.Native.Nat.{ℕ, suc}
 use mathlib.Core.Bool.{Bool, true, false, cond}
 use mathlib.Core.List.{List, [], _∷_}
 use lib.Dec.{eqb, leb}
-use Rattle.sets.specs.Sets.{union, without, only}
+use Rattle.sets.specs.Sets.{union, without, only, empty, firstOr}
 
 pub record Entry : Type 0 where
   pub sample : ℕ
@@ -13,36 +13,28 @@ pub record Entry : Type 0 where
 abbrev pub entry : ℕ → List ℕ → Entry
 entry n fs = record { sample = n; frags = fs }
 
-abbrev pub isEmpty : List ℕ → Bool
-isEmpty [] = true
-isEmpty (f ∷ fs) = false
-
 -- an entry that asks for nothing isn't kept
 abbrev pub keep : Entry → List Entry → List Entry
-keep e es = cond (isEmpty (e .frags)) es (e ∷ es)
+keep e es = cond (empty (e .frags)) es (e ∷ es)
 
 -- "A request sets bits for one sample"
 abbrev pub asked : ℕ → List ℕ → List Entry → List Entry
 asked n ms [] = entry n ms ∷ []
 asked n ms (e ∷ es) =
     cond (eqb (e .sample) n)
-    (entry n (union ms (e .frags)) ∷ es)
+    (entry (e .sample) (union ms (e .frags)) ∷ es)
     (cond (leb n (e .sample)) (entry n ms ∷ e ∷ es) (e ∷ asked n ms es))
 
 -- "An empty request makes no entry"
 abbrev pub requested : ℕ → List ℕ → List Entry → List Entry
-requested n ms es = cond (isEmpty ms) es (asked n ms es)
+requested n ms es = cond (empty ms) es (asked n ms es)
 
 -- "Marking one sent clears its bit and drops an entry left empty; not requested, whatever its number: nothing changes"
 abbrev pub sent : ℕ → ℕ → List Entry → List Entry
 sent n f [] = []
-sent n f (e ∷ es) = cond (eqb (e .sample) n) (keep (entry n (without f (e .frags))) es) (e ∷ sent n f es)
+sent n f (e ∷ es) = cond (eqb (e .sample) n) (keep (entry (e .sample) (without f (e .frags))) es) (e ∷ sent n f es)
 
 -- "The next fragment is the smallest requested number, at or after any number given, of the smallest sample held"
-abbrev pub firstOf : List ℕ → ℕ
-firstOf [] = 0
-firstOf (f ∷ fs) = f
-
 abbrev pub nextSample : List Entry → ℕ
 nextSample [] = 0
 nextSample (e ∷ es) = e .sample
@@ -50,4 +42,13 @@ nextSample (e ∷ es) = e .sample
 -- 0: none
 abbrev pub nextFragment : ℕ → List Entry → ℕ
 nextFragment f [] = 0
-nextFragment f (e ∷ es) = firstOf (only (leb f) (e .frags))
+nextFragment f (e ∷ es) = firstOr 0 (only (leb f) (e .frags))
+
+-- whether any is requested
+abbrev pub some : List Entry → Bool
+some [] = false
+some (e ∷ es) = true
+
+abbrev pub samplesOf : List Entry → List ℕ
+samplesOf [] = []
+samplesOf (e ∷ es) = e .sample ∷ samplesOf es

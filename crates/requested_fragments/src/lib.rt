@@ -1,1 +1,6 @@
-// Requested fragments in lent rooms.
+// Requested fragments in lent rooms: the samples, and 64 words of bits for each.
+pub mod ask;
+pub mod bits;
+pub mod table;
+
+pub use table::NextPiece;

@@ -12,10 +12,11 @@ use Rattle.numbers.specs.Refusals.{Row, row, rowsOf, answerOf, done, unless}
 use Rattle.numbers.specs.Promise.{Left1, Gives1}
 use Rattle.numbers.specs.declared.answer.Answer.{Answer}
 use Rattle.numbers.specs.declared.answer.Rows.{Rows}
+use Rattle.numbers.proofs.Next.{none-is}
 use Rattle.numbers.proofs.Refused.{Clear, clear, done-is, is-refused, is-done, gives1}
-use Rattle.sets.specs.Sets.{has, From, insert, only, between, without, union, smallest}
+use Rattle.sets.specs.Sets.{has, From, insert, only, between, without, union, smallest, empty, firstOr}
 use Rattle.sets.proofs.Bools.{and-left, and-right, decide, or-right}
-use Rattle.sets.proofs.Has.{has-insert, From-insert, From-low}
+use Rattle.sets.proofs.Has.{has-insert, From-insert, From-low, From-weak, From-only}
 use Rattle.sets.proofs.Ext.{ext}
 use mathlib.Core.Logic.{_⊎_, inl, inr}
 use Rattle.rising.specs.Runs.{roomOf, inRoom, insertWithin, removed, fromOn, before, cutOut, filled, merged, mergedInto, over}
@@ -57,6 +58,14 @@ between-room p c a r b e k n v u g h =
     let fb : length (between b e (take c a)) ≤ length a = omega (arith, only-le (λ x. leb b x && leb x e) (take c a)) in
     let y = in-room p k v (before (e + 1)) (between b e (take c a)) ok bt (omega arith) n u h in
     (y .0, y .1 ∙ ap (λ (x : ℕ). roomOf x (between b e (take c a))) lv)
+
+-- the first number of a coherent run from n on, and whether there is none
+pub first-is : (p c : ℕ) (a : List ℕ) (n r : ℕ) → RunIs p c a → r ≡ firstOr 0 (fromOn n (take c a)) → (eqb r 0 ≡ empty (only (leb n) (take c a))) × (r ≡ firstOr 0 (only (leb n) (take c a)))
+first-is p c a n r w e =
+    let f = w .rises .from in
+    let o = from-only n (suc p) (take c a) f in
+    let q : r ≡ firstOr 0 (only (leb n) (take c a)) = e ∙ ap (firstOr 0) o in
+    (ap (λ (x : ℕ). eqb x 0) q ∙ none-is (only (leb n) (take c a)) (From-weak 1 (suc p) (only (leb n) (take c a)) (omega arith) (From-only (suc p) (leb n) (take c a) f)), q)
 
 pub insert-le : (n : ℕ) (l : List ℕ) → length (insert n l) ≤ suc (length l)
 insert-le n [] = omega arith

@@ -10,7 +10,7 @@ use lib.Bits.{bitOr, or-add-and, and-le-l, and-le-r}
 use lib.ListN.{length, take, drop, getD, length-drop}
 use lib.Seq.{take-all}
 use borrow.Author.Tests.{eqb-true, eqb-false, eq-eqb, ne-eqb, le-leb, lt-leb, leb-true, leb-false}
-use Rattle.sets.specs.Sets.{has}
+use Rattle.sets.specs.Sets.{has, firstOr}
 use Rattle.sets.proofs.Bools.{decide, or-assoc}
 use Rattle.numbers.specs.Number.{topNumber}
 use Rattle.rising.specs.Runs.{risesAbove, zeros, runOk, holdsAt}
@@ -86,3 +86,10 @@ take-min c s = go (leb c (length s)) refl
     go : (t : Bool) → leb c (length s) ≡ t → take (min c (length s)) s ≡ take c s
     go true e = let w = leb-true c (length s) e in let z : min c (length s) ≡ c = omega arith in ap (λ (k : ℕ). take k s) z
     go false e = let w = leb-false c (length s) e in take-all (min c (length s)) s (omega arith) ∙ sym (take-all c s (omega arith))
+
+-- the first number from the place i on
+pub first-at : (l : List ℕ) (i : ℕ) → i < length l → getD l i 0 ≡ firstOr 0 (drop i l)
+first-at l i h = sym (ap (firstOr 0) (here l i h))
+
+pub first-none : (l : List ℕ) (i : ℕ) → length l ≤ i → 0 ≡ firstOr 0 (drop i l)
+first-none l i h = sym (ap (firstOr 0) (done l i h))

@@ -4,11 +4,14 @@ use mathlib.Core.Bool.{Bool, true, false, not, _&&_}
 use mathlib.Core.List.{List, [], _∷_}
 use lib.Dec.{leb}
 use lib.ListN.{length, take}
-use Rattle.sets.specs.Sets.{has, insert, union, only, between, without, smallest}
+use Rattle.sets.specs.Sets.{has, insert, union, only, between, without, smallest, empty, firstOr}
 use Rattle.numbers.specs.Number.{rankOf, isSample}
 use Rattle.numbers.specs.Refusals.{Row, row, rowsOf, done, unless}
+use Rattle.numbers.specs.Cursor.{nextNumber}
 use Rattle.numbers.specs.Promise.{Left1}
 use Rattle.numbers.specs.declared.answer.Answer.{Answer}
+use Rattle.numbers.specs.declared.cursor.Cursor.{Cursor}
+use Rattle.numbers.specs.declared.cursor.NextNumber.{NextNumber}
 use Rattle.numbers.specs.declared.sequence_number.SequenceNumber.{SequenceNumber}
 use Rattle.rising.specs.Runs.{runOk, roomOf}
 use Rattle.rising.specs.declared.set.RisingSet.{RisingSet}
@@ -58,6 +61,10 @@ keptBetween b e = changedBy [] (between (rankOf b) (rankOf e))
 
 abbrev pub containedOf : SequenceNumber → RisingSet → List ℕ → Contained
 containedOf n s room = unless (rowsOf (checked s room [])) (λ a. record { answer = a; yes = false }) (record { answer = done; yes = has (membersOf s room) (rankOf n) })
+
+-- the next member from the cursor on
+abbrev pub nextFromOf : Cursor → RisingSet → List ℕ → NextNumber
+nextFromOf at s room = nextNumber (rowsOf (checked s room (row 14 (empty (only (leb (at .from)) (membersOf s room))) ∷ []))) (firstOr 0 (only (leb (at .from)) (membersOf s room)))
 
 -- the members of two sets in the room `out`: the smallest, as many as it holds, and how many were left out
 abbrev pub joinedOf : RisingSet → List ℕ → RisingSet → List ℕ → List ℕ → Left1 Joined (List ℕ)

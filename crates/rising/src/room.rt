@@ -2,7 +2,7 @@
 ghost use mathlib.Core.Path.{_≡_};
 ghost use Prim.Native.Nat.{_≤_, _<_, _+_};
 ghost use lib.ListN.{length, take};
-ghost use Rattle.sets.specs.Sets.{has, smallest};
+ghost use Rattle.sets.specs.Sets.{has, smallest, firstOr};
 ghost use Rattle.numbers.specs.Promise.{Gives1};
 ghost use Rattle.rising.specs.Runs.{inRoom, cutOut, openedWithin, putIn, over, removed, fromOn, before, insertWithin, newest};
 use crate::run;
@@ -13,6 +13,15 @@ pub fn holds(s: &[u64], count: usize, n: u64) -> bool
 {
     let end = run::smaller(count, s.len());
     run::contains(&s[..end], n)
+}
+
+// The first number of the run from n on; 0 where there is none.
+pub fn first_from(s: &[u64], count: usize, n: u64) -> u64
+    ensures { λ r. ⌜ r ≡ firstOr 0 (fromOn n (take count (now (s .entry)))) ⌝ }
+{
+    let end = run::smaller(count, s.len());
+    let i = run::place(&s[..end], n);
+    if i < end { s[i] } else { 0 }
 }
 
 // The run without the k numbers from i on.

@@ -4,11 +4,13 @@ ghost use mathlib.Core.List.{[], _∷_};
 ghost use Prim.Native.Nat.{_-_};
 ghost use Rattle.numbers.specs.Promise.{Gives1};
 ghost use Rattle.numbers.specs.Refusals.{row, rowsOf, answerOf};
-ghost use Rattle.rising.specs.Set.{isCoherent, checked, isFull, insertedOf, removedOf, removedBefore, keptBetween, containedOf, joinedOf};
+ghost use Rattle.rising.specs.Set.{isCoherent, checked, isFull, insertedOf, removedOf, removedBefore, keptBetween, containedOf, nextFromOf, joinedOf};
 use crate::merge;
 use crate::room;
 use crate::run;
 use numbers::Answer;
+use numbers::Cursor;
+use numbers::NextNumber;
 use numbers::Rows;
 use numbers::SequenceNumber;
 
@@ -64,6 +66,17 @@ impl RisingSet {
         }
         let yes = room::holds(s, self.count, n.rank());
         Contained { answer, yes }
+    }
+
+    // The smallest member at or after the cursor, and the cursor past it.
+    pub fn next_from(self, s: &[u64], at: Cursor) -> NextNumber
+        ensures { λ r. ⌜ r ≡ nextFromOf at self (now (s .entry)) ⌝ }
+    {
+        let n = room::first_from(s, self.count, at.from);
+        let mut rows = Rows::none();
+        rows.incoherent = !self.coherent(s);
+        rows.nothing = n == 0;
+        NextNumber::of(rows, n)
     }
 
     // n joins the set.

@@ -5,28 +5,32 @@ use mathlib.Core.Bool.{Bool, true, false, not, cond, _&&_, _||_}
 use mathlib.Core.Logic.{_⊎_, inl, inr}
 use mathlib.Core.List.{List, [], _∷_, _++_}
 use native.Mathlib.Omega.{arith}
+use native.Mathlib.Nat.{lt-irrefl}
 use lib.Dec.{leb, ltb, eqb}
 use lib.ListN.{length, take, length-take}
 use lib.Seq.{length-take-le}
-use borrow.Author.Tests.{not-false, not-true, eqb-true, leb-true, leb-false, le-leb, lt-leb, ltb-true, ltb-false}
+use borrow.Author.Tests.{not-false, not-true, eqb-true, leb-true, leb-false, le-leb, lt-leb, ltb-true, ltb-false, ne-eqb}
 use Rattle.numbers.specs.Number.{topNumber, rankOf, inRange, numberAt}
 use Rattle.numbers.specs.Refusals.{Row, row, rowsOf, answerOf, done, unless}
 use Rattle.numbers.specs.Promise.{Left1, Gives1}
 use Rattle.numbers.specs.declared.answer.Answer.{Answer}
 use Rattle.numbers.specs.declared.answer.Rows.{Rows}
+use Rattle.numbers.specs.Cursor.{nextNumber}
+use Rattle.numbers.specs.declared.cursor.Cursor.{Cursor}
+use Rattle.numbers.proofs.Next.{next-same}
 use Rattle.numbers.proofs.Refused.{clear, done-is, is-refused, is-done, gives1}
 use Rattle.numbers.proofs.Ranks.{range-back}
-use Rattle.sets.specs.Sets.{From, has, insert, only}
+use Rattle.sets.specs.Sets.{From, has, insert, only, empty, firstOr}
 use Rattle.sets.proofs.Bools.{and-left, and-right, decide}
 use Rattle.sets.proofs.Has.{From-weak}
 use Rattle.rising.specs.Runs.{runOk, roomOf, inRoom, insertWithin, fromOn}
 use Rattle.rising.proofs.Meaning.{RunIs, run-is, in-room, from-only, room-is}
-use Rattle.rising.proofs.Changes.{only-le, insert-le}
+use Rattle.rising.proofs.Changes.{only-le, insert-le, first-is}
 use Rattle.rtps_reader_proxy.specs.declared.proxy.ReaderProxy.{ReaderProxy}
 use Rattle.rtps_reader_proxy.specs.declared.proxy.Changed.{Changed}
-use Rattle.rtps_reader_proxy.specs.Reader.{Reader, needsRoom, gapInserted, gapUpTo}
+use Rattle.rtps_reader_proxy.specs.Reader.{Reader, needsRoom, gapInserted, gapUpTo, nextGap}
 use Rattle.rtps_reader_proxy.specs.Record.{headOk, gapsOk, gapFloor, seen, gapRoom}
-use Rattle.rtps_reader_proxy.specs.Gaps.{countGaps, byGaps, gapsBy}
+use Rattle.rtps_reader_proxy.specs.Gaps.{countGaps, byGaps, gapsBy, nextGapOf}
 
 -- what the check of the head says of the prefix end
 pub head-prefix : (h : ReaderProxy) → headOk h ≡ true → inRange (h .«gap_prefix_end») topNumber ≡ true
@@ -131,3 +135,21 @@ module _ (h : ReaderProxy) (gaps : List ℕ) (rows : List Row) (a : Answer) (q :
         go true true e f = e
         go true false e f = sym f
         go false t e f = refl
+
+-- the next number of the pending gap
+pub next-gap : (at : Cursor) (h : ReaderProxy) (gaps : List ℕ) (from member n : ℕ) → from ≡ max (at .from) (max 1 (rankOf (h .«all_acked_before»)))
+    → member ≡ firstOr 0 (fromOn from (take (h .«gap_count») gaps)) → n ≡ cond (leb from (rankOf (h .«gap_prefix_end»))) from member
+    → nextNumber (rowsOf (row 1 (not (gapsOk h gaps)) ∷ row 14 (eqb n 0) ∷ [])) n ≡ nextGapOf at h gaps
+next-gap at h gaps from member n ef em en =
+    next-same (not (gapsOk h gaps)) (eqb n 0) (empty (nextGap (at .from) (byGaps h gaps))) n (firstOr 0 (nextGap (at .from) (byGaps h gaps)))
+    (λ b.
+    let w = first-is (gapFloor h) (h .«gap_count») gaps from member (gaps-are h gaps (not-false (gapsOk h gaps) b) .run) em in
+    let g = go (leb from (rankOf (h .«gap_prefix_end»))) n en (omega arith) w in (
+      g .0 ∙ ap (λ (f : ℕ). empty (cond (leb f (rankOf (h .«gap_prefix_end»))) (f ∷ []) (only (leb f) (take (h .«gap_count») gaps)))) ef,
+      g .1 ∙ ap (λ (f : ℕ). firstOr 0 (cond (leb f (rankOf (h .«gap_prefix_end»))) (f ∷ []) (only (leb f) (take (h .«gap_count») gaps)))) ef,
+    ))
+  where
+    go : (t : Bool) (n : ℕ) → n ≡ cond t from member → 1 ≤ from → (eqb member 0 ≡ empty (only (leb from) (take (h .«gap_count») gaps))) × (member ≡ firstOr 0 (only (leb from) (take (h .«gap_count») gaps)))
+        → (eqb n 0 ≡ empty (cond t (from ∷ []) (only (leb from) (take (h .«gap_count») gaps)))) × (n ≡ firstOr 0 (cond t (from ∷ []) (only (leb from) (take (h .«gap_count») gaps))))
+    go true n e l w = (ap (λ (x : ℕ). eqb x 0) e ∙ ne-eqb from 0 (λ z. lt-irrefl 0 (omega arith)), e)
+    go false n e l w = (ap (λ (x : ℕ). eqb x 0) e ∙ w .0, e ∙ w .1)

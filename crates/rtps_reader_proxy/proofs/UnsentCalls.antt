@@ -14,13 +14,16 @@ use Rattle.numbers.specs.Refusals.{Row, row, rowsOf, answerOf, done, unless}
 use Rattle.numbers.specs.Promise.{Left1, Left2, Gives1, Gives2}
 use Rattle.numbers.specs.declared.answer.Answer.{Answer}
 use Rattle.numbers.specs.declared.answer.Rows.{Rows}
+use Rattle.numbers.specs.Cursor.{nextNumber}
+use Rattle.numbers.specs.declared.cursor.Cursor.{Cursor}
+use Rattle.numbers.proofs.Next.{next-same}
 use Rattle.numbers.proofs.Refused.{clear, done-is, is-refused, is-done, gives1, gives2}
-use Rattle.sets.specs.Sets.{From, insert, only, without, largest}
+use Rattle.sets.specs.Sets.{From, insert, only, without, largest, empty, firstOr}
 use Rattle.sets.proofs.Bools.{and-left, and-right}
 use Rattle.sets.proofs.Smallest.{largest-few}
 use Rattle.rising.specs.Runs.{runOk, roomOf, inRoom, newest, removed, fromOn, cutOut, filled}
 use Rattle.rising.proofs.Meaning.{RunIs, run-is, in-room, from-only, removed-without, only-all}
-use Rattle.rising.proofs.Changes.{only-le}
+use Rattle.rising.proofs.Changes.{only-le, first-is}
 use Rattle.rising.proofs.Lists.{done as past}
 use Rattle.rising.proofs.Scans.{take-min}
 use Rattle.rtps_reader_proxy.specs.declared.proxy.ReaderProxy.{ReaderProxy}
@@ -28,7 +31,7 @@ use Rattle.rtps_reader_proxy.specs.declared.proxy.Changed.{Changed}
 use Rattle.rtps_reader_proxy.specs.declared.unsent.Taken.{Taken}
 use Rattle.rtps_reader_proxy.specs.Reader.{Reader, fresh, notified, markedSent, removedBefore, taken, untaken, withUnsent}
 use Rattle.rtps_reader_proxy.specs.Record.{headOk, unsentOk, seen, headOf, unsentRoom}
-use Rattle.rtps_reader_proxy.specs.Unsent.{newOf, countUnsent, byUnsent, unsentBy, takenOf}
+use Rattle.rtps_reader_proxy.specs.Unsent.{newOf, countUnsent, byUnsent, unsentBy, takenOf, nextUnsentOf}
 
 -- a new reader
 module _ (m : ℕ) (a : Answer) (q : a ≡ answerOf (rowsOf (row 13 (not (leb 1 m && leb m 1024)) ∷ []))) where
@@ -182,3 +185,10 @@ module _ (h : ReaderProxy) (unsent out : List ℕ) (a : Answer) (q : a ≡ answe
             go : (t : Bool) → leb (length out) (h .«unsent_count») ≡ t → drop k held ≡ drop (length out) held
             go true b = let g = leb-true (length out) (h .«unsent_count») b in let x : k ≡ length out = omega arith in ap (λ (m : ℕ). drop m held) x
             go false b = let g = leb-false (length out) (h .«unsent_count») b in past held k (omega arith) ∙ sym (past held (length out) (omega arith))
+
+-- the next unsent number
+pub next-unsent : (at : Cursor) (h : ReaderProxy) (unsent : List ℕ) (n : ℕ) → n ≡ firstOr 0 (fromOn (at .from) (take (h .«unsent_count») unsent))
+    → nextNumber (rowsOf (row 1 (not (unsentOk h unsent)) ∷ row 14 (eqb n 0) ∷ [])) n ≡ nextUnsentOf at h unsent
+next-unsent at h unsent n e =
+    next-same (not (unsentOk h unsent)) (eqb n 0) (empty (only (leb (at .from)) (take (h .«unsent_count») unsent))) n (firstOr 0 (only (leb (at .from)) (take (h .«unsent_count») unsent)))
+    (λ b. first-is 0 (h .«unsent_count») unsent (at .from) n (unsent-is h unsent (not-false (unsentOk h unsent) b) .run) e)

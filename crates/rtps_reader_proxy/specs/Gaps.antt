@@ -6,12 +6,16 @@ use lib.Dec.{leb, ltb}
 use lib.ListN.{length}
 use Rattle.numbers.specs.Number.{topNumber, rankOf, isSample, inRange, negative, numberAt}
 use Rattle.numbers.specs.Refusals.{Row, row, rowsOf, done, unless}
+use Rattle.sets.specs.Sets.{empty, firstOr}
+use Rattle.numbers.specs.Cursor.{nextNumber}
+use Rattle.numbers.specs.declared.cursor.Cursor.{Cursor}
+use Rattle.numbers.specs.declared.cursor.NextNumber.{NextNumber}
 use Rattle.numbers.specs.Promise.{Left1}
 use Rattle.numbers.specs.declared.answer.Answer.{Answer}
 use Rattle.numbers.specs.declared.sequence_number.SequenceNumber.{SequenceNumber}
 use Rattle.rtps_reader_proxy.specs.declared.proxy.ReaderProxy.{ReaderProxy}
 use Rattle.rtps_reader_proxy.specs.declared.proxy.Changed.{Changed}
-use Rattle.rtps_reader_proxy.specs.Reader.{Reader, needsRoom, gapInserted, gapUpTo}
+use Rattle.rtps_reader_proxy.specs.Reader.{Reader, needsRoom, gapInserted, gapUpTo, nextGap}
 use Rattle.rtps_reader_proxy.specs.Record.{gapsOk, seen, gapRoom}
 
 -- the head, with another prefix end and the count of other gap members
@@ -54,3 +58,10 @@ gapInsertedOf n last h gaps =
 
 abbrev pub gapUpToOf : SequenceNumber → SequenceNumber → ReaderProxy → List ℕ → Left1 Changed (List ℕ)
 gapUpToOf e last = gapsBy (row 2 (negative e || beyond e last) ∷ []) (gapUpTo (rankOf e))
+
+-- the next number of the pending gap from the cursor on; 14 where there is none
+abbrev pub nextGapOf : Cursor → ReaderProxy → List ℕ → NextNumber
+nextGapOf at h gaps =
+    nextNumber
+    (rowsOf (row 1 (not (gapsOk h gaps)) ∷ row 14 (empty (nextGap (at .from) (byGaps h gaps))) ∷ []))
+    (firstOr 0 (nextGap (at .from) (byGaps h gaps)))

@@ -6,6 +6,10 @@ use lib.Dec.{leb}
 use lib.ListN.{length}
 use Rattle.numbers.specs.Number.{rankOf, isSample, numberAt}
 use Rattle.numbers.specs.Refusals.{Row, row, rowsOf, done, unless}
+use Rattle.sets.specs.Sets.{only, empty, firstOr}
+use Rattle.numbers.specs.Cursor.{nextNumber}
+use Rattle.numbers.specs.declared.cursor.Cursor.{Cursor}
+use Rattle.numbers.specs.declared.cursor.NextNumber.{NextNumber}
 use Rattle.numbers.specs.Promise.{Left1, Left2}
 use Rattle.numbers.specs.declared.answer.Answer.{Answer}
 use Rattle.numbers.specs.declared.sequence_number.SequenceNumber.{SequenceNumber}
@@ -71,3 +75,10 @@ takenOf h unsent out =
       first = unsentRoom (withUnsent (untaken (length out) (byUnsent h unsent .unsent)) (byUnsent h unsent));
       second = filled (taken (length out) (byUnsent h unsent .unsent)) out;
     })
+
+-- the next unsent number from the cursor on; 14 where there is none
+abbrev pub nextUnsentOf : Cursor → ReaderProxy → List ℕ → NextNumber
+nextUnsentOf at h unsent =
+    nextNumber
+    (rowsOf (row 1 (not (unsentOk h unsent)) ∷ row 14 (empty (only (leb (at .from)) (byUnsent h unsent .unsent))) ∷ []))
+    (firstOr 0 (only (leb (at .from)) (byUnsent h unsent .unsent)))

@@ -1,20 +1,30 @@
 // The pending gap: a prefix from 1 on, and single members above it.
 ghost use mathlib.Core.Path.{_≡_};
 ghost use mathlib.Core.List.{[], _∷_};
-ghost use mathlib.Core.Bool.{not, _||_};
+ghost use mathlib.Core.Bool.{not, cond, _||_};
+ghost use lib.Dec.{leb};
 ghost use Rattle.numbers.specs.Number.{rankOf};
 ghost use Rattle.numbers.specs.Promise.{Gives1};
 ghost use Rattle.numbers.specs.Refusals.{row, rowsOf, answerOf};
 ghost use Rattle.rtps_reader_proxy.specs.Reader.{needsRoom};
 ghost use Rattle.rtps_reader_proxy.specs.Record.{gapsOk};
-ghost use Rattle.rtps_reader_proxy.specs.Gaps.{byGaps, beyond, gapInsertedOf, gapUpToOf, countGaps};
+ghost use Rattle.rtps_reader_proxy.specs.Gaps.{byGaps, beyond, gapInsertedOf, gapUpToOf, nextGapOf, countGaps};
 use crate::arith;
 use crate::proxy::Changed;
 use crate::proxy::ReaderProxy;
 use numbers::Answer;
+use numbers::Cursor;
+use numbers::NextNumber;
 use numbers::Rows;
 use numbers::SequenceNumber;
 use rising::room;
+
+// The first number of the gap: within the prefix, or a member.
+fn first_gap(from: u64, prefix: u64, member: u64) -> u64
+    ensures { λ r. ⌜ r ≡ cond (leb from prefix) from member ⌝ }
+{
+    if from <= prefix { from } else { member }
+}
 
 // Whether n is above `last`, or `last` is no last number.
 fn is_beyond(n: SequenceNumber, last: SequenceNumber) -> bool
@@ -54,6 +64,20 @@ impl ReaderProxy {
         self.gap_prefix_end = SequenceNumber::from_rank(prefix);
         self.gap_count = count;
         self
+    }
+
+    // The first number of the pending gap at or after the cursor, and the cursor past it.
+    pub fn next_pending_gap(self, gaps: &[u64], at: Cursor) -> NextNumber
+        ensures { λ r. ⌜ r ≡ nextGapOf at self (now (gaps .entry)) ⌝ }
+    {
+        let from = arith::larger(at.from, arith::larger(1, self.all_acked_before.rank()));
+        let prefix = self.gap_prefix_end.rank();
+        let member = room::first_from(gaps, self.gap_count, from);
+        let n = first_gap(from, prefix, member);
+        let mut rows = Rows::none();
+        rows.incoherent = !self.gaps_ok(gaps);
+        rows.nothing = n == 0;
+        NextNumber::of(rows, n)
     }
 
     // A sample that this reader is not to get.

@@ -2,13 +2,16 @@
 ghost use mathlib.Core.Path.{_≡_};
 ghost use mathlib.Core.List.{[], _∷_};
 ghost use mathlib.Core.Bool.{not};
+ghost use Rattle.numbers.specs.Cursor.{cursorAt};
 ghost use Rattle.numbers.specs.Promise.{Gives1, Gives2};
 ghost use Rattle.numbers.specs.Refusals.{row, rowsOf, answerOf};
 ghost use Rattle.rtps_reader_proxy.specs.Record.{unsentOk};
-ghost use Rattle.rtps_reader_proxy.specs.Unsent.{notifiedOf, markedSentOf, removedBeforeOf, takenOf, countUnsent};
+ghost use Rattle.rtps_reader_proxy.specs.Unsent.{notifiedOf, markedSentOf, removedBeforeOf, takenOf, nextUnsentOf, countUnsent};
 use crate::proxy::Changed;
 use crate::proxy::ReaderProxy;
 use numbers::Answer;
+use numbers::Cursor;
+use numbers::NextNumber;
 use numbers::Rows;
 use numbers::SequenceNumber;
 use rising::room;
@@ -37,6 +40,23 @@ impl ReaderProxy {
     {
         self.unsent_count = count;
         self
+    }
+
+    // The first unsent number at or after the cursor, and the cursor past it.
+    pub fn next_unsent_change(self, unsent: &[u64], at: Cursor) -> NextNumber
+        ensures { λ r. ⌜ r ≡ nextUnsentOf at self (now (unsent .entry)) ⌝ }
+    {
+        let n = room::first_from(unsent, self.unsent_count, at.from);
+        let mut rows = Rows::none();
+        rows.incoherent = !self.unsent_ok(unsent);
+        rows.nothing = n == 0;
+        NextNumber::of(rows, n)
+    }
+
+    pub fn first_unsent_change(self, unsent: &[u64]) -> NextNumber
+        ensures { λ r. ⌜ r ≡ nextUnsentOf (cursorAt 0) self (now (unsent .entry)) ⌝ }
+    {
+        self.next_unsent_change(unsent, Cursor { from: 0 })
     }
 
     // A new sample: its number joins the unsent numbers; above the cap the smallest go.

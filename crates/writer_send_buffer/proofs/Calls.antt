@@ -1,6 +1,6 @@
 -- A call on the record that is refused where it isn't coherent or a number is out of range: what it leaves, by its answer. Assumes nothing.
 use Prim.Native.Nat.{ℕ}
-use mathlib.Core.Path.{_≡_, refl, ap, _∙_}
+use mathlib.Core.Path.{_≡_, _∙_}
 use mathlib.Core.Bool.{Bool, true, false, not, _||_}
 use lib.Dec.{ltb}
 use borrow.Author.Tests.{ne-eqb}

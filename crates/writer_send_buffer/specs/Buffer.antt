@@ -1,6 +1,5 @@
 -- The flow record as it is declared, and what each call on it leaves. Assumes nothing.
-use Prim.Native.Nat.{ℕ, _+_, max}
-use mathlib.Core.Bool.{Bool, true, false, not, cond, _&&_}
+use mathlib.Core.Bool.{Bool, true, false, not, _&&_}
 use lib.Dec.{ltb}
 use Rattle.numbers.specs.Number.{rankOf, negative, numberAt}
 use Rattle.numbers.specs.Refusals.{unless, done}
@@ -8,13 +7,14 @@ use Rattle.numbers.specs.Promise.{Left1}
 use Rattle.numbers.specs.declared.answer.Answer.{Answer}
 use Rattle.numbers.specs.declared.answer.Rows.{Rows}
 use Rattle.numbers.specs.declared.sequence_number.SequenceNumber.{SequenceNumber}
+use Rattle.reader_list.specs.Slots.{frontierOf}
 use Rattle.writer_send_buffer.specs.declared.limits.Kind.{Kind}
 use Rattle.writer_send_buffer.specs.declared.limits.Limits.{Limits}
 use Rattle.writer_send_buffer.specs.declared.flow.WriterSendBuffer.{WriterSendBuffer}
 use Rattle.writer_send_buffer.specs.declared.flow.Told.{Told}
 use Rattle.writer_send_buffer.specs.declared.flow.Numbered.{Numbered}
 use Rattle.writer_send_buffer.specs.declared.flow.Moved.{Moved}
-use Rattle.writer_send_buffer.specs.declared.frontiers.AckedFrontier.{AckedFrontier}
+use Rattle.reader_list.specs.declared.heads.AckedFrontier.{AckedFrontier}
 use Rattle.writer_send_buffer.specs.declared.frontiers.Woken.{Woken}
 use Rattle.writer_send_buffer.specs.Flow.{Flow, allowed, counted, fits, blank, room, ahead, stored, wakes, raised, ackedThrough, evicted}
 
@@ -31,29 +31,11 @@ isCoherent f = not (negative (f .last)) && (not (negative (f .sent)) && fits (vi
 
 -- THE ROWS
 
-abbrev pub limited : Bool → Rows
-limited limit =
+-- the rows that a call other than a write can meet: 13, 1, 2 and 14
+abbrev pub rowsOf : Bool → Bool → Bool → Bool → Rows
+rowsOf limit coherent range nothing =
     record {
       limit = limit;
-      incoherent = false;
-      bits = false;
-      range = false;
-      reader = false;
-      ahead = false;
-      payload = false;
-      «used_up» = false;
-      «would_block» = false;
-      «store_full» = false;
-      «readers_full» = false;
-      «gaps_full» = false;
-      «frags_full» = false;
-      nothing = false;
-    }
-
-abbrev pub ranged : Bool → Bool → Rows
-ranged coherent range =
-    record {
-      limit = false;
       incoherent = not coherent;
       bits = false;
       range = range;
@@ -66,8 +48,17 @@ ranged coherent range =
       «readers_full» = false;
       «gaps_full» = false;
       «frags_full» = false;
-      nothing = false;
+      nothing = nothing;
     }
+
+abbrev pub limited : Bool → Rows
+limited limit = rowsOf limit true false false
+
+abbrev pub ranged : Bool → Bool → Rows
+ranged coherent range = rowsOf false coherent range false
+
+abbrev pub fetched : Bool → Bool → Rows
+fetched coherent there = rowsOf false coherent false (not there)
 
 -- A NEW WRITER
 
@@ -113,10 +104,6 @@ abbrev pub lastOf : WriterSendBuffer → Numbered
 lastOf f = questioned f noNumber (record { answer = done; number = f .last })
 
 -- FRONTIERS AND EVICTION
-
--- "raised to 1 at least"; 0 stands for an absent one
-abbrev pub frontierOf : AckedFrontier → ℕ
-frontierOf a = cond (a .present) (max 1 (rankOf (a .acked))) 0
 
 abbrev pub ackedOf : WriterSendBuffer → AckedFrontier → Left1 Told WriterSendBuffer
 ackedOf f a =

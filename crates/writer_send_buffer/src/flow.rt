@@ -2,7 +2,7 @@
 ghost use mathlib.Core.Path.{_≡_};
 ghost use Prim.Native.Nat.{_-_, _<_, _^_};
 ghost use Rattle.numbers.specs.Refusals.{answerOf};
-ghost use Rattle.writer_send_buffer.specs.Flow.{room, trims, full, usedUp};
+ghost use Rattle.writer_send_buffer.specs.Flow.{room, trims, full, trimmed, admitRows, admitted};
 ghost use Rattle.writer_send_buffer.specs.Buffer.{view, form, isCoherent, limited, ranged, newOf, roomOf, firstOf, lastOf};
 use crate::limits::Kind;
 use crate::limits::Limits;
@@ -10,6 +10,7 @@ use crate::limits::above;
 use numbers::Answer;
 use numbers::Rows;
 use numbers::SequenceNumber;
+use reader_list::heads::larger;
 
 // The flow record. The payloads stand in a lent store beside it.
 #[repr(C)]
@@ -179,6 +180,52 @@ impl WriterSendBuffer {
         let limits = self.limits;
         let slots = limits.slots;
         !trimmed & (slots <= held)
+    }
+
+    // What a write of `len` bytes is answered; `coherent` says whether the record and the lent store are.
+    pub fn admission(self, coherent: bool, len: usize, opted: bool) -> Answer
+        ensures { λ r. ⌜ r ≡ answerOf (admitRows coherent len (view self) opted) ⌝ }
+    {
+        let last = self.last.rank();
+        let limits = self.limits;
+        let bytes = limits.slot_bytes as usize;
+        let room = self.room_for(opted);
+        let full = self.full_for(opted);
+        let mut rows = Rows::none();
+        rows.incoherent = !coherent;
+        rows.payload = bytes < len;
+        rows.used_up = last == SequenceNumber::LAST;
+        rows.would_block = !room;
+        rows.store_full = full;
+        Answer::of(rows)
+    }
+
+    // The oldest number retained once one more is in.
+    fn first_after(self, opted: bool) -> u64
+        ensures { λ r. ⌜ r ≡ trimmed (view self) opted ⌝ }
+    {
+        let last = self.last.rank();
+        let first = self.first.rank();
+        let limits = self.limits;
+        let kept = above(last + 2, limits.retain);
+        if self.trims_for(opted) {
+            larger(first, kept)
+        } else {
+            first
+        }
+    }
+
+    // The record once one more is in.
+    pub fn after(self, opted: bool) -> WriterSendBuffer
+        ensures { λ r. ⌜ r ≡ form (admitted (view self) opted) ⌝ }
+    {
+        let last = self.last.rank();
+        let first = self.first_after(opted);
+        let sent = self.sent.rank();
+        let acked = self.acked.rank();
+        let kind = self.kind;
+        let limits = self.limits;
+        WriterSendBuffer::formed(last + 1, first, sent, acked, self.present, kind, limits)
     }
 
     // Room for one more sample, as a question of its own.

@@ -1,35 +1,19 @@
 // The frontiers and eviction, by value.
 ghost use mathlib.Core.Path.{_≡_};
-ghost use Rattle.writer_send_buffer.specs.Buffer.{frontierOf, ackedOf, sentOf, evictOf, throughOf, woken, moved};
+ghost use Rattle.writer_send_buffer.specs.Buffer.{ackedOf, sentOf, evictOf, throughOf, woken, moved};
 use crate::flow::Moved;
 use crate::flow::Told;
 use crate::flow::WriterSendBuffer;
 use crate::flow::range_answer;
-use crate::limits::larger;
 use numbers::SequenceNumber;
-
-// An acknowledgement frontier: absent, or a number.
-#[repr(C)]
-pub struct AckedFrontier {
-    pub present: bool,
-    pub acked: SequenceNumber,
-}
+use reader_list::AckedFrontier;
+use reader_list::heads::larger;
 
 // Whether to wake who waits, with the record as it then is.
 #[repr(C)]
 pub struct Woken {
     pub told: Told,
     pub flow: WriterSendBuffer,
-}
-
-impl AckedFrontier {
-    // Its natural number, raised to 1 at least; 0 stands for an absent one.
-    pub fn rank(self) -> u64
-        ensures { λ r. ⌜ r ≡ frontierOf self ⌝ }
-    {
-        let n = self.acked.rank();
-        if self.present { larger(1, n) } else { 0 }
-    }
 }
 
 impl WriterSendBuffer {

@@ -1,11 +1,16 @@
 // A writer's send buffer: the flow record and admission, and the retained samples in a lent store.
-pub mod flow;
-pub mod frontiers;
-pub mod limits;
+mod flow;
+mod frontiers;
+mod in_place;
+mod limits;
+mod samples;
 
 pub use flow::Moved;
 pub use flow::Numbered;
 pub use flow::Told;
 pub use flow::WriterSendBuffer;
+pub use frontiers::Woken;
 pub use limits::Kind;
 pub use limits::Limits;
+pub use samples::Admitted;
+pub use samples::Located;

@@ -1,7 +1,8 @@
 // What kind of writer it is, and its limits.
 ghost use mathlib.Core.Path.{_≡_};
-ghost use Prim.Native.Nat.{_-_, max};
+ghost use Prim.Native.Nat.{_-_};
 ghost use Rattle.writer_send_buffer.specs.Flow.{allowed, counted};
+use reader_list::heads::larger;
 
 #[repr(C)]
 pub struct Kind {
@@ -17,12 +18,6 @@ pub struct Limits {
     pub retain: u64,
     pub slots: u64,
     pub slot_bytes: u64,
-}
-
-pub fn larger(a: u64, b: u64) -> u64
-    ensures { λ r. ⌜ r ≡ max a b ⌝ }
-{
-    if a < b { b } else { a }
 }
 
 // How far a is above b.

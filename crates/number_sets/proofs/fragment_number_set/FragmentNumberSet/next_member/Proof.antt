@@ -8,13 +8,9 @@ use Rattle.number_sets.proofs.fragment_number_set.FragmentNumberSet.nex
 use Rattle.number_sets.proofs.fragment_number_set.FragmentNumberSet.next_member.Tie as tie
 use Rattle.number_sets.proofs.fragment_number_set.FragmentNumberSet.next_member.Reads as reads
 use Rattle.number_sets.proofs.fragment_number_set.FragmentNumberSet.next_member.Lts as lts
-use Rattle.number_sets.proofs.fragment_number_set.FragmentNumberSet.widened.Reads as widened-reads
-use Rattle.number_sets.proofs.sequence_number_set.SequenceNumberSet.next_rank.Reads as next-rank-reads
+use Rattle.number_sets.proofs.fragment_number_set.FragmentNumberSet.next_rank.Reads as next-rank-reads
 use Rattle.numbers.proofs.answer.Rows.none.Reads as none-reads
 use Rattle.numbers.proofs.cursor.NextFragment.of.Reads as of-reads
-
-widened-requires : tie.Need-widened-requires
-widened-requires c κs = search needs
 
 next-rank-requires : tie.Need-next-rank-requires
 next-rank-requires c κs = search needs
@@ -26,8 +22,8 @@ of-requires : tie.Need-of-requires
 of-requires c κs = search needs
 
 returns : tie.Need-returns
-returns c = rw (c .of .ensures, c .before .none .ensures, c .before .before .next-rank .ensures, c .before .before .before .widened .ensures)
+returns c = rw (c .of .ensures, c .before .none .ensures, c .before .before .next-rank .ensures)
 
 pub next-member-spec : {M : Type 1} → statement M
 next-member-spec =
-    tie.close (tie.spec widened-requires next-rank-requires none-requires of-requires returns)
+    tie.close (tie.spec next-rank-requires none-requires of-requires returns)

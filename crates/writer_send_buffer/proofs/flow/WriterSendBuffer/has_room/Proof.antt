@@ -1,9 +1,6 @@
 -- `has_room` meets its contract. Assumes nothing.
-use Prim.Native.Nat.{_+_}
-use mathlib.Core.Path.{refl, ap}
-use mathlib.Core.Bool.{Bool, false}
-use lib.Dec.{ltb}
-use Rattle.numbers.specs.Number.{rankOf}
+use mathlib.Core.Path.{refl}
+use mathlib.Core.Bool.{false}
 use Rattle.numbers.specs.Refusals.{done}
 use Rattle.writer_send_buffer.specs.Flow.{room}
 use Rattle.writer_send_buffer.specs.Buffer.{view, toldNo}

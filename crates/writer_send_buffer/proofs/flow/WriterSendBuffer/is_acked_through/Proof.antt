@@ -1,8 +1,6 @@
 -- `is_acked_through` meets its contract. Assumes nothing.
-use Prim.Native.Nat.{_+_}
-use mathlib.Core.Path.{refl, ap}
-use mathlib.Core.Bool.{Bool, false}
-use lib.Dec.{ltb}
+use mathlib.Core.Path.{refl}
+use mathlib.Core.Bool.{false}
 use Rattle.numbers.specs.Number.{rankOf}
 use Rattle.numbers.specs.Refusals.{done}
 use Rattle.writer_send_buffer.specs.Flow.{ackedThrough}

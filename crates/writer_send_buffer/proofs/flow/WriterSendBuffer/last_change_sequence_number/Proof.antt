@@ -1,11 +1,7 @@
 -- `last_change_sequence_number` meets its contract. Assumes nothing.
-use Prim.Native.Nat.{_+_}
-use mathlib.Core.Path.{refl, ap}
-use mathlib.Core.Bool.{Bool, false}
-use lib.Dec.{ltb}
-use Rattle.numbers.specs.Number.{rankOf}
+use mathlib.Core.Path.{refl}
+use mathlib.Core.Bool.{false}
 use Rattle.numbers.specs.Refusals.{done}
-use Rattle.writer_send_buffer.specs.Flow.{room}
 use Rattle.writer_send_buffer.specs.Buffer.{noNumber}
 use Rattle.writer_send_buffer.proofs.Calls.{is-0, refused, finished}
 use borrow.Author.Needs.{needs}

@@ -1,5 +1,5 @@
 -- `new` meets its contract. Assumes nothing.
-use mathlib.Core.Path.{refl, ap, _∙_}
+use mathlib.Core.Path.{ap, _∙_}
 use mathlib.Core.Bool.{Bool, not}
 use Rattle.numbers.specs.Refusals.{answerOf, done}
 use Rattle.numbers.proofs.Refused.{is-refused, is-done}

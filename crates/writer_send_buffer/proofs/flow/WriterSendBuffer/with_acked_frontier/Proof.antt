@@ -3,7 +3,8 @@ use Prim.Native.Nat.{_+_}
 use mathlib.Core.Path.{sym, ap, _∙_}
 use lib.Dec.{ltb}
 use Rattle.writer_send_buffer.specs.Flow.{ahead}
-use Rattle.writer_send_buffer.specs.Buffer.{view, toldNo, woken, frontierOf}
+use Rattle.reader_list.specs.Slots.{frontierOf}
+use Rattle.writer_send_buffer.specs.Buffer.{view, toldNo, woken}
 use Rattle.writer_send_buffer.proofs.Calls.{is-0, refused, finished, storedIn, none-stored, one-stored}
 use borrow.Author.Needs.{needs}
 use Rattle.writer_send_buffer.proofs.flow.WriterSendBuffer.with_acked_frontier.Statement.{

@@ -1,11 +1,9 @@
 -- `with_changes_removed` meets its contract. Assumes nothing.
 use Prim.Native.Nat.{_+_}
-use mathlib.Core.Path.{refl, ap}
-use mathlib.Core.Bool.{Bool, false}
+use mathlib.Core.Path.{ap}
 use lib.Dec.{ltb}
 use Rattle.numbers.specs.Number.{rankOf}
 use Rattle.numbers.specs.Refusals.{done}
-use Rattle.numbers.specs.Promise.{Left1}
 use Rattle.writer_send_buffer.specs.Flow.{ahead, evicted}
 use Rattle.writer_send_buffer.specs.Buffer.{view, form, moved}
 use Rattle.writer_send_buffer.proofs.Calls.{is-0, refused, finished}

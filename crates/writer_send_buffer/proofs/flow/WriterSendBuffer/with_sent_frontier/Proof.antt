@@ -1,7 +1,5 @@
 -- `with_sent_frontier` meets its contract. Assumes nothing.
-use Prim.Native.Nat.{_+_}
-use mathlib.Core.Path.{refl, ap}
-use mathlib.Core.Bool.{Bool, false}
+use mathlib.Core.Path.{ap}
 use lib.Dec.{ltb}
 use Rattle.numbers.specs.Number.{rankOf}
 use Rattle.numbers.specs.Refusals.{done}

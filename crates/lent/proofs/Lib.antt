@@ -1,0 +1,11 @@
+-- Laws for records lent by `&mut` and for slices of records.
+pub mod Plain
+pub mod Lent
+pub mod LentTwo
+pub mod Places
+pub mod Fold0
+pub mod Fold1
+pub mod Walk1
+pub mod Whole0
+pub mod Whole1
+pub mod Back1

@@ -1,0 +1,269 @@
+-- What the walk gathers is what the definitions say of the list. Assumes nothing.
+use Prim.Native.Nat.{ℕ, zero, suc, _+_, _-_, _<_, _≤_, min, max}
+use mathlib.Core.Path.{_≡_, refl, sym, ap, subst, _∙_}
+use mathlib.Core.Bool.{Bool, true, false, not, cond, _&&_, _||_}
+use mathlib.Core.List.{List, [], _∷_, _++_, foldl, append-assoc, append-nil}
+use native.Mathlib.Nat.{add-zero, zero-add}
+use native.Mathlib.Numerals.{add-one}
+use native.Mathlib.Omega.{arith}
+use lib.Dec.{ltb, leb, eqb}
+use lib.ListN.{length, take, getD, set, length-set, length-replicate}
+use lib.Seq.{take-suc-set}
+use borrow.Author.Tests.{lt-ltb, le-ltb, ltb-true, ltb-false, leb-true, leb-false}
+use Rattle.numbers.specs.Number.{rankOf}
+use Rattle.reader_list.specs.declared.heads.ReaderHead.{ReaderHead}
+use Rattle.reader_list.specs.declared.walk.Ask.{Ask}
+use Rattle.reader_list.specs.declared.walk.Seen.{Seen}
+use Rattle.reader_list.specs.Readers.{Head, meet, frontier, placeOf, isThere, slotFits, slotsFit, different}
+use Rattle.reader_list.specs.Slots.{headOf, readers, isCoherent, freeSlot}
+use Rattle.reader_list.specs.Walk.{isIn, distinct, begun, counted, seenStep, isWhole, isFound, hasFree}
+use Rattle.reader_list.proofs.Ids.{and-assoc, and-true, and-false, and-left, and-right}
+
+-- ---- the ids
+abbrev pub idsOf : List ReaderHead → List ℕ
+idsOf [] = []
+idsOf (h ∷ hs) = h .id ∷ idsOf hs
+
+in-ids : (i : ℕ) (hs : List ReaderHead) → isIn i (idsOf hs) ≡ isThere i (readers hs)
+in-ids i [] = refl
+in-ids i (h ∷ hs) = ap (λ (b : Bool). eqb (h .id) i || b) (in-ids i hs)
+
+distinct-ids : (hs : List ReaderHead) → distinct (idsOf hs) ≡ different (readers hs)
+distinct-ids [] = refl
+distinct-ids (h ∷ hs) = λ k. (eqb (h .id) 0 || not (in-ids (h .id) hs k)) && distinct-ids hs k
+
+pub length-readers : (hs : List ReaderHead) → length (readers hs) ≡ length hs
+length-readers [] = refl
+length-readers (h ∷ hs) = ap suc (length-readers hs)
+
+-- ---- a place below the length is that of a reader
+pub place-there : (i : ℕ) (hs : List Head) → ltb (placeOf i hs) (length hs) ≡ isThere i hs
+place-there i [] = le-ltb 0 0 (omega arith)
+place-there i (h ∷ hs) = go (eqb (h .id) i) (place-there i hs)
+  where
+    less-suc : (a b : ℕ) → ltb (suc a) (suc b) ≡ ltb a b
+    less-suc a b = step (ltb a b) refl
+      where
+        step : (t : Bool) → ltb a b ≡ t → ltb (suc a) (suc b) ≡ t
+        step true e = let k = ltb-true a b e in lt-ltb (suc a) (suc b) (omega arith)
+        step false e = let k = ltb-false a b e in le-ltb (suc a) (suc b) (omega arith)
+
+    go : (t : Bool) → ltb (placeOf i hs) (length hs) ≡ isThere i hs → ltb (cond t 0 (suc (placeOf i hs))) (suc (length hs)) ≡ (t || isThere i hs)
+    go true e = lt-ltb 0 (suc (length hs)) (omega arith)
+    go false e = less-suc (placeOf i hs) (length hs) ∙ e
+
+-- ---- the frontier of three
+pub meet-assoc : (a b c : ℕ) → meet (meet a b) c ≡ meet a (meet b c)
+meet-assoc zero b c = refl
+meet-assoc (suc a) zero c = refl
+meet-assoc (suc a) (suc b) zero = go (min (suc a) (suc b)) (omega arith)
+  where
+    go : (m : ℕ) → 1 ≤ m → meet m zero ≡ m
+    go zero h = absurd (omega arith)
+    go (suc m) h = refl
+meet-assoc (suc a) (suc b) (suc c) = go (min (suc a) (suc b)) (min (suc b) (suc c)) (omega arith) (omega arith) (omega arith)
+  where
+    go : (m k : ℕ) → 1 ≤ m → 1 ≤ k → min m (suc c) ≡ min (suc a) k → meet m (suc c) ≡ meet (suc a) k
+    go zero k h g e = absurd (omega arith)
+    go (suc m) zero h g e = absurd (omega arith)
+    go (suc m) (suc k) h g e = e
+
+-- ---- the walk, from any slot on
+pub record Gathered (s : Seen) (hs : List ReaderHead) (t : Seen) : Type 0 where
+  pub count : t .count ≡ s .count + length hs
+  pub clean : t .clean ≡ (s .clean && slotsFit (readers hs))
+  pub ids : take (s .count + length hs) (t .ids) ≡ take (s .count) (s .ids) ++ idsOf hs
+  pub found : s .at < s .count → (t .at ≡ s .at) × (t .head ≡ s .head)
+  pub sought : s .at ≡ s .count → (t .at ≡ s .count + placeOf (s .ask .id) (readers hs)) × (t .head ≡ getD hs (placeOf (s .ask .id) (readers hs)) (s .head))
+  pub had : s .free < s .count → t .free ≡ s .free
+  pub wanted : s .free ≡ s .count → t .free ≡ s .count + placeOf 0 (readers hs)
+  pub front : t .front ≡ meet (s .front) (frontier (readers hs))
+
+module _ (s : Seen) (h : ReaderHead) (hs : List ReaderHead) (long : length (s .ids) ≡ 64) (few : s .count + length (h ∷ hs) ≤ 64) where
+  abbrev s′ : Seen
+  s′ = seenStep s h
+
+  on : counted (s .count) ≡ s .count + 1
+  on = rw (lt-ltb (s .count) 65 (omega arith))
+
+  stored : s′ .ids ≡ set (s .ids) (s .count) (h .id)
+  stored = rw (lt-ltb (s .count) 64 (omega arith))
+
+  more : (n : ℕ) → s .count + 1 + n ≡ s .count + suc n
+  more n = omega arith
+
+  module _ (t : Seen) (g : Gathered s′ hs t) where
+    ids-on : take (s .count + length (h ∷ hs)) (t .ids) ≡ take (s .count) (s .ids) ++ idsOf (h ∷ hs)
+    ids-on =
+        let k : s .count < length (s .ids) = omega arith in
+        ap (λ (n : ℕ). take n (t .ids)) (sym (more (length hs)) ∙ ap (λ (n : ℕ). n + length hs) (sym on))
+        ∙ g .ids
+        ∙ ap (λ (l : List ℕ). l ++ idsOf hs) ((λ i. take (on i) (stored i)) ∙ ap (λ (n : ℕ). take n (set (s .ids) (s .count) (h .id))) (add-one (s .count)) ∙ take-suc-set (s .ids) (s .count) (h .id) k)
+        ∙ append-assoc (take (s .count) (s .ids)) (h .id ∷ []) (idsOf hs)
+
+    front-on : t .front ≡ meet (s .front) (frontier (readers (h ∷ hs)))
+    front-on = g .front ∙ go (h .reliable)
+      where
+        go : (b : Bool) → meet (cond b (meet (s .front) (max 1 (rankOf (h .acked)))) (s .front)) (frontier (readers hs)) ≡ meet (s .front) (cond b (meet (max 1 (rankOf (h .acked))) (frontier (readers hs))) (frontier (readers hs)))
+        go true = meet-assoc (s .front) (max 1 (rankOf (h .acked))) (frontier (readers hs))
+        go false = refl
+
+    -- a place that was found stays; one that was not is found here, or sought on
+    found-on : s .at < s .count → (t .at ≡ s .at) × (t .head ≡ s .head)
+    found-on l =
+        let a : s′ .at ≡ s .at = rw (lt-ltb (s .at) (s .count) l) in
+        let b : s′ .head ≡ s .head = rw (lt-ltb (s .at) (s .count) l) in
+        let m : s′ .at < s′ .count = rw (a, on) (omega arith) in
+        (g .found m .0 ∙ a, g .found m .1 ∙ b)
+
+    had-on : s .free < s .count → t .free ≡ s .free
+    had-on l =
+        let a : s′ .free ≡ s .free = rw (lt-ltb (s .free) (s .count) l) in
+        let m : s′ .free < s′ .count = rw (a, on) (omega arith) in
+        g .had m ∙ a
+
+    sought-on : s .at ≡ s .count → (t .at ≡ s .count + placeOf (s .ask .id) (readers (h ∷ hs))) × (t .head ≡ getD (h ∷ hs) (placeOf (s .ask .id) (readers (h ∷ hs))) (s .head))
+    sought-on e = go (eqb (h .id) (s .ask .id)) refl
+      where
+        n : ltb (s .at) (s .count) ≡ false
+        n = le-ltb (s .at) (s .count) (omega arith)
+
+        go : (b : Bool) → eqb (h .id) (s .ask .id) ≡ b
+            → (t .at ≡ s .count + cond b 0 (suc (placeOf (s .ask .id) (readers hs)))) × (t .head ≡ getD (h ∷ hs) (cond b 0 (suc (placeOf (s .ask .id) (readers hs)))) (s .head))
+        go true q =
+            let a : s′ .at ≡ s .at = rw (n, q) in
+            let b : s′ .head ≡ h = rw (n, q) in
+            let m : s′ .at < s′ .count = rw (a, on) (omega arith) in
+            (g .found m .0 ∙ a ∙ e ∙ sym (add-zero (s .count)), g .found m .1 ∙ b)
+        go false q =
+            let a : s′ .at ≡ s′ .count = rw (n, q) in
+            let b : s′ .head ≡ s .head = rw (n, q) in
+            let w = g .sought a in
+            (w .0 ∙ ap (λ (x : ℕ). x + placeOf (s .ask .id) (readers hs)) on ∙ more (placeOf (s .ask .id) (readers hs)), w .1 ∙ ap (getD hs (placeOf (s .ask .id) (readers hs))) b)
+
+    wanted-on : s .free ≡ s .count → t .free ≡ s .count + placeOf 0 (readers (h ∷ hs))
+    wanted-on e = go (eqb (h .id) 0) refl
+      where
+        n : ltb (s .free) (s .count) ≡ false
+        n = le-ltb (s .free) (s .count) (omega arith)
+
+        go : (b : Bool) → eqb (h .id) 0 ≡ b → t .free ≡ s .count + cond b 0 (suc (placeOf 0 (readers hs)))
+        go true q =
+            let a : s′ .free ≡ s .free = rw (n, q) in
+            let m : s′ .free < s′ .count = rw (a, on) (omega arith) in
+            g .had m ∙ a ∙ e ∙ sym (add-zero (s .count))
+        go false q =
+            let a : s′ .free ≡ s′ .count = rw (n, q) in
+            g .wanted a ∙ ap (λ (x : ℕ). x + placeOf 0 (readers hs)) on ∙ more (placeOf 0 (readers hs))
+
+    gathered-on : Gathered s (h ∷ hs) t
+    gathered-on =
+        record {
+          count = g .count ∙ ap (λ (n : ℕ). n + length hs) on ∙ more (length hs);
+          clean = g .clean ∙ and-assoc (s .clean) (slotFits (headOf h)) (slotsFit (readers hs));
+          ids = ids-on;
+          found = found-on;
+          sought = sought-on;
+          had = had-on;
+          wanted = wanted-on;
+          front = front-on;
+        }
+
+gathered : (hs : List ReaderHead) (s : Seen) → length (s .ids) ≡ 64 → s .count + length hs ≤ 64 → Gathered s hs (foldl seenStep s hs)
+gathered [] s long few =
+    record {
+      count = sym (add-zero (s .count));
+      clean = sym (and-true (s .clean));
+      ids = ap (λ (n : ℕ). take n (s .ids)) (add-zero (s .count)) ∙ sym (append-nil (take (s .count) (s .ids)));
+      found = λ l. (refl, refl);
+      sought = λ e. (e ∙ sym (add-zero (s .count)), refl);
+      had = λ l. refl;
+      wanted = λ e. e ∙ sym (add-zero (s .count));
+      front = sym (meet-none (s .front));
+    }
+  where
+    meet-none : (a : ℕ) → meet a 0 ≡ a
+    meet-none zero = refl
+    meet-none (suc a) = refl
+gathered (h ∷ hs) s long few =
+    gathered-on s h hs long few (foldl seenStep (seenStep s h) hs)
+    (gathered hs (seenStep s h) (still (ltb (s .count) 64)) (rw (on s h hs long few) (omega (arith, more s h hs long few (length hs)))))
+  where
+    still : (b : Bool) → length (cond b (set (s .ids) (s .count) (h .id)) (s .ids)) ≡ 64
+    still true = length-set (s .ids) (s .count) (h .id) ∙ long
+    still false = long
+
+-- ---- more than 64 slots
+counted-most : (n : ℕ) → n ≤ 65 → counted n ≤ 65
+counted-most n h = go (ltb n 65) refl
+  where
+    go : (b : Bool) → ltb n 65 ≡ b → cond b (n + 1) n ≤ 65
+    go true e = let k = ltb-true n 65 e in omega arith
+    go false e = h
+
+counted-min : (n m : ℕ) → min 65 (counted n + m) ≡ min 65 (n + suc m)
+counted-min n m = go (ltb n 65) refl
+  where
+    go : (b : Bool) → ltb n 65 ≡ b → min 65 (cond b (n + 1) n + m) ≡ min 65 (n + suc m)
+    go true e = omega arith
+    go false e = let k = ltb-false n 65 e in omega arith
+
+many : (hs : List ReaderHead) (s : Seen) → s .count ≤ 65 → foldl seenStep s hs .count ≡ min 65 (s .count + length hs)
+many [] s h = omega arith
+many (x ∷ hs) s h = many hs (seenStep s x) (counted-most (s .count) h) ∙ counted-min (s .count) (length hs)
+
+-- ---- what is asked stays
+pub asked : (hs : List ReaderHead) (s : Seen) → foldl seenStep s hs .ask ≡ s .ask
+asked [] s = refl
+asked (h ∷ hs) s = asked hs (seenStep s h)
+
+-- ---- the whole walk
+module _ (a : Ask) (hs : List ReaderHead) where
+  abbrev end : Seen
+  end = foldl seenStep (begun a) hs
+
+  module _ (few : length hs ≤ 64) where
+    g : Gathered (begun a) hs end
+    g = gathered hs (begun a) (length-replicate {A = ℕ} 64 0) (rw zero-add few)
+
+    count-is : end .count ≡ length hs
+    count-is = g .count ∙ zero-add (length hs)
+
+    whole-few : isWhole end ≡ isCoherent hs
+    whole-few =
+        let n : length (readers hs) ≡ length hs = length-readers hs in
+        let d : distinct (take (end .count) (end .ids)) ≡ different (readers hs) = ap (λ (k : ℕ). distinct (take k (end .ids))) (g .count) ∙ ap distinct (g .ids) ∙ distinct-ids hs in
+        λ i. leb 1 ((count-is ∙ sym n) i) && (leb ((count-is ∙ sym n) i) 64 && (g .clean i && d i))
+
+    pub at-is : end .at ≡ placeOf (a .id) (readers hs)
+    at-is = g .sought refl .0 ∙ zero-add (placeOf (a .id) (readers hs))
+
+    pub head-is : end .head ≡ getD hs (placeOf (a .id) (readers hs)) freeSlot
+    head-is = g .sought refl .1
+
+    pub free-is : end .free ≡ placeOf 0 (readers hs)
+    free-is = g .wanted refl ∙ zero-add (placeOf 0 (readers hs))
+
+    pub front-is : end .front ≡ frontier (readers hs)
+    front-is = g .front
+
+    pub found-is : isFound end ≡ isThere (a .id) (readers hs)
+    found-is = (λ i. ltb (at-is i) ((count-is ∙ sym (length-readers hs)) i)) ∙ place-there (a .id) (readers hs)
+
+    pub room-is : hasFree end ≡ isThere 0 (readers hs)
+    room-is = (λ i. ltb (free-is i) ((count-is ∙ sym (length-readers hs)) i)) ∙ place-there 0 (readers hs)
+
+  pub whole-is : isWhole end ≡ isCoherent hs
+  whole-is = go (leb (length hs) 64) refl
+    where
+      go : (b : Bool) → leb (length hs) 64 ≡ b → isWhole end ≡ isCoherent hs
+      go true e = whole-few (leb-true (length hs) 64 e)
+      go false e =
+          let k = leb-false (length hs) 64 e in
+          let c : end .count ≡ 65 = many hs (begun a) (omega arith) ∙ omega (arith, zero-add (length hs)) in
+          let l : leb (length (readers hs)) 64 ≡ false = ap (λ (n : ℕ). leb n 64) (length-readers hs) ∙ e in
+          rw (c, l) (and-false (leb 1 (length (readers hs))))
+
+  -- a coherent list has at most 64 slots
+  pub few-of : isCoherent hs ≡ true → length hs ≤ 64
+  few-of e = subst (λ (n : ℕ). n ≤ 64) (length-readers hs) (leb-true (length (readers hs)) 64 (and-left (leb (length (readers hs)) 64) (slotsFit (readers hs) && different (readers hs)) (and-right (leb 1 (length (readers hs))) (leb (length (readers hs)) 64 && (slotsFit (readers hs) && different (readers hs))) e)))

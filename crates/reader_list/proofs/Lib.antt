@@ -1,0 +1,9 @@
+-- Laws that belong to no one function.
+pub mod Ids
+pub mod Gather
+pub mod Answers
+pub mod Cells
+pub mod Kept
+pub mod Smallest
+pub mod Unique
+pub mod Frontiers

@@ -1,0 +1,47 @@
+-- `front_end` meets its contract. Assumes nothing.
+use mathlib.Core.Path.{_≡_, ap, _∙_}
+use mathlib.Core.Bool.{Bool, false}
+use Rattle.numbers.specs.Refusals.{answerOf, done}
+use Rattle.numbers.proofs.Refused.{is-refused, is-done}
+use Rattle.reader_list.specs.Slots.{listed, frontierAt}
+use Rattle.reader_list.specs.Walk.{isWhole}
+use Rattle.reader_list.proofs.Ids.{is-0}
+use Rattle.reader_list.specs.declared.calls.Front.{Front}
+use borrow.Author.Needs.{needs}
+use Rattle.reader_list.proofs.ends.front_end.Statement.{statement}
+use Rattle.reader_list.proofs.ends.front_end.Tie as tie
+
+is-whole-requires : tie.Need-is-whole-requires
+is-whole-requires c κs = search needs
+
+list-answer-requires : tie.Need-list-answer-requires
+list-answer-requires c κs = search needs
+
+from-rank-requires : tie.Need-from-rank-requires
+from-rank-requires c κs = search needs
+
+returns : tie.Need-returns
+returns c =
+    let s = c .before .before .before .before .before .args .s in
+    let q : c .before .before .before .list-answer .result ≡ answerOf (listed false (isWhole s) false false false) = c .before .before .before .list-answer .ensures ∙ ap (λ (b : Bool). answerOf (listed false b false false false)) (c .before .before .before .before .is-whole .ensures) in
+    rw (c .from-rank .ensures) (is-refused {A = Front} (listed false (isWhole s) false false false) (c .before .before .before .list-answer .result) q (λ no. record { answer = no; frontier = frontierAt 0 }) (record { answer = done; frontier = frontierAt (s .front) }) (c .before .if1 .taken))
+
+from-rank-requires-2 : tie.Need-from-rank-requires-2
+from-rank-requires-2 c κs = search needs
+
+returns-2 : tie.Need-returns-2
+returns-2 c =
+    let s = c .before .before .before .before .before .args .s in
+    let q : c .before .before .before .list-answer .result ≡ answerOf (listed false (isWhole s) false false false) = c .before .before .before .list-answer .ensures ∙ ap (λ (b : Bool). answerOf (listed false b false false false)) (c .before .before .before .before .is-whole .ensures) in
+    rw (is-0 (c .before .before .before .list-answer .result) (c .before .if1 .left), c .from-rank2 .ensures) (is-done {A = Front} (listed false (isWhole s) false false false) (c .before .before .before .list-answer .result) q (λ no. record { answer = no; frontier = frontierAt 0 }) (record { answer = done; frontier = frontierAt (s .front) }) (c .before .if1 .left))
+
+pub front-end-spec : {M : Type 1} → statement M
+front-end-spec =
+    tie.close
+    (tie.spec
+    is-whole-requires
+    list-answer-requires
+    from-rank-requires
+    returns
+    from-rank-requires-2
+    returns-2)

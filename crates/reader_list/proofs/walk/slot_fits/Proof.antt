@@ -1,0 +1,13 @@
+-- `slot_fits` meets its contract. Assumes nothing.
+use borrow.Author.Needs.{needs}
+use Rattle.reader_list.proofs.walk.slot_fits.Statement.{statement}
+use Rattle.reader_list.proofs.walk.slot_fits.Tie as tie
+
+rank-requires : tie.Need-rank-requires
+rank-requires c κs = search needs
+
+returns : tie.Need-returns
+returns c = rw (c .before .rank .ensures .is)
+
+pub slot-fits-spec : {M : Type 1} → statement M
+slot-fits-spec = tie.close (tie.spec rank-requires returns)

@@ -1,0 +1,110 @@
+-- The lent list as it is declared, and what each call on it leaves. Assumes nothing.
+use Prim.Native.Nat.{ℕ, max}
+use mathlib.Core.Bool.{Bool, false, not, cond, _&&_, _||_}
+use mathlib.Core.List.{List, [], _∷_}
+use lib.Dec.{leb, eqb}
+use lib.ListN.{getD, set}
+use Rattle.numbers.specs.Number.{rankOf, negative, numberAt}
+use Rattle.numbers.specs.Refusals.{unless, done}
+use Rattle.numbers.specs.Promise.{Left1}
+use Rattle.numbers.specs.declared.answer.Answer.{Answer}
+use Rattle.numbers.specs.declared.answer.Rows.{Rows}
+use Rattle.reader_list.specs.declared.heads.ReaderHead.{ReaderHead}
+use Rattle.reader_list.specs.declared.heads.AckedFrontier.{AckedFrontier}
+use Rattle.reader_list.specs.declared.calls.Match.{Match}
+use Rattle.reader_list.specs.declared.calls.Acked.{Acked}
+use Rattle.reader_list.specs.declared.calls.Found.{Found}
+use Rattle.reader_list.specs.declared.calls.Front.{Front}
+use Rattle.reader_list.specs.Readers.{Head, frontier, placeOf, isThere, fits}
+
+-- the list on natural numbers
+abbrev pub headOf : ReaderHead → Head
+headOf h = record { id = h .id; reliable = h .reliable; acked = rankOf (h .acked) }
+
+abbrev pub readers : List ReaderHead → List Head
+readers [] = []
+readers (h ∷ hs) = headOf h ∷ readers hs
+
+abbrev pub isCoherent : List ReaderHead → Bool
+isCoherent hs = fits (readers hs)
+
+abbrev pub freeSlot : ReaderHead
+freeSlot = record { id = 0; reliable = false; acked = numberAt 0 }
+
+-- a frontier's natural number, "raised to 1 at least", 0 for an absent one; and back
+abbrev pub frontierOf : AckedFrontier → ℕ
+frontierOf a = cond (a .present) (max 1 (rankOf (a .acked))) 0
+
+abbrev pub frontierAt : ℕ → AckedFrontier
+frontierAt a = record { present = not (eqb a 0); acked = numberAt a }
+
+-- THE ROWS
+
+abbrev pub listed : Bool → Bool → Bool → Bool → Bool → Rows
+listed limit coherent range reader full =
+    record {
+      limit = limit;
+      incoherent = not coherent;
+      bits = false;
+      range = range;
+      reader = reader;
+      ahead = false;
+      payload = false;
+      «used_up» = false;
+      «would_block» = false;
+      «store_full» = false;
+      «readers_full» = full;
+      «gaps_full» = false;
+      «frags_full» = false;
+      nothing = false;
+    }
+
+-- "11: reader id 0, unknown, or already there"
+abbrev pub unknown : ℕ → List Head → Bool
+unknown i hs = eqb i 0 || not (isThere i hs)
+
+abbrev pub taken : ℕ → List Head → Bool
+taken i hs = eqb i 0 || isThere i hs
+
+-- "unsent cap M, per reader: 1 to 1,024"
+abbrev pub capAllowed : ℕ → Bool
+capAllowed m = leb 1 m && leb m 1024
+
+-- QUESTIONS
+
+abbrev pub frontOf : List ReaderHead → Front
+frontOf hs =
+    unless (listed false (isCoherent hs) false false false)
+    (λ no. record { answer = no; frontier = frontierAt 0 })
+    (record { answer = done; frontier = frontierAt (frontier (readers hs)) })
+
+abbrev pub foundOf : List ReaderHead → ℕ → Found
+foundOf hs i =
+    unless (listed false (isCoherent hs) false (unknown i (readers hs)) false)
+    (λ no. record { answer = no; place = 0; head = freeSlot })
+    (record { answer = done; place = placeOf i (readers hs); head = getD hs (placeOf i (readers hs)) freeSlot })
+
+-- CHANGES: each of one slot
+
+abbrev pub matchRows : List ReaderHead → Match → Rows
+matchRows hs m = listed (not (capAllowed (m .cap))) (isCoherent hs) false (taken (m .id) (readers hs)) (not (isThere 0 (readers hs)))
+
+-- "A match adds a reader with acked 0"
+abbrev pub matchOf : List ReaderHead → Match → Left1 Answer (List ReaderHead)
+matchOf hs m =
+    unless (matchRows hs m)
+    (λ no. record { result = no; first = hs })
+    (record { result = done; first = set hs (placeOf 0 (readers hs)) (record { id = m .id; reliable = m .reliable; acked = numberAt 0 }) })
+
+abbrev pub departOf : List ReaderHead → ℕ → Left1 Answer (List ReaderHead)
+departOf hs i =
+    unless (listed false (isCoherent hs) false (unknown i (readers hs)) false)
+    (λ no. record { result = no; first = hs })
+    (record { result = done; first = set hs (placeOf i (readers hs)) freeSlot })
+
+-- a reader's acked is at least 0
+abbrev pub ackOf : List ReaderHead → Acked → Left1 Answer (List ReaderHead)
+ackOf hs a =
+    unless (listed false (isCoherent hs) (negative (a .acked)) (unknown (a .id) (readers hs)) false)
+    (λ no. record { result = no; first = hs })
+    (record { result = done; first = set hs (placeOf (a .id) (readers hs)) (record { id = a .id; reliable = getD hs (placeOf (a .id) (readers hs)) freeSlot .reliable; acked = a .acked }) })

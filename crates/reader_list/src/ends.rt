@@ -1,0 +1,196 @@
+// What each call asks of the walk, and what it is answered once every slot is seen.
+ghost use mathlib.Core.Path.{_≡_};
+ghost use Rattle.numbers.specs.Refusals.{answerOf};
+ghost use Rattle.reader_list.specs.Slots.{listed};
+ghost use Rattle.reader_list.specs.Walk.{nowhere, askFront, askFor, askMatch, askAcked, frontEnd, foundEnd, matchEnd, departEnd, ackedEnd};
+use crate::calls::Acked;
+use crate::calls::Found;
+use crate::calls::Front;
+use crate::calls::Match;
+use crate::heads::AckedFrontier;
+use crate::heads::ReaderHead;
+use crate::walk::Ask;
+use crate::walk::Seen;
+use crate::walk::begin;
+use crate::walk::free_slot;
+use crate::walk::is_whole;
+use numbers::Answer;
+use numbers::Rows;
+use numbers::SequenceNumber;
+
+// An answer, and the head to store at a place; past the end, nothing is stored.
+pub struct Put {
+    pub answer: Answer,
+    pub at: usize,
+    pub head: ReaderHead,
+}
+
+fn list_answer(limit: bool, coherent: bool, range: bool, reader: bool, full: bool) -> Answer
+    ensures { λ r. ⌜ r ≡ answerOf (listed limit coherent range reader full) ⌝ }
+{
+    let mut rows = Rows::none();
+    rows.limit = limit;
+    rows.incoherent = !coherent;
+    rows.range = range;
+    rows.reader = reader;
+    rows.readers_full = full;
+    Answer::of(rows)
+}
+
+fn put_nowhere(answer: Answer) -> Put
+    ensures { λ r. ⌜ r ≡ nowhere answer ⌝ }
+{
+    let head = free_slot();
+    Put {
+        answer,
+        at: 18446744073709551615,
+        head,
+    }
+}
+
+pub fn ask_for(id: u64) -> Seen
+    ensures { λ r. ⌜ r ≡ askFor id ⌝ }
+{
+    let acked = SequenceNumber::from_rank(0);
+    begin(Ask {
+        id,
+        reliable: false,
+        acked,
+        cap: 0,
+    })
+}
+
+pub fn ask_front() -> Seen
+    ensures { λ r. ⌜ r ≡ askFront ⌝ }
+{
+    ask_for(0)
+}
+
+pub fn ask_match(m: Match) -> Seen
+    ensures { λ r. ⌜ r ≡ askMatch m ⌝ }
+{
+    let acked = SequenceNumber::from_rank(0);
+    begin(Ask {
+        id: m.id,
+        reliable: m.reliable,
+        acked,
+        cap: m.cap,
+    })
+}
+
+pub fn ask_acked(a: Acked) -> Seen
+    ensures { λ r. ⌜ r ≡ askAcked a ⌝ }
+{
+    let acked = a.acked;
+    begin(Ask {
+        id: a.id,
+        reliable: false,
+        acked,
+        cap: 0,
+    })
+}
+
+pub fn front_end(s: Seen) -> Front
+    ensures { λ r. ⌜ r ≡ frontEnd s ⌝ }
+{
+    let whole = is_whole(s);
+    let answer = list_answer(false, whole, false, false, false);
+    if answer.number != 0 {
+        let frontier = AckedFrontier::from_rank(0);
+        return Front { answer, frontier };
+    }
+    let frontier = AckedFrontier::from_rank(s.front);
+    Front { answer, frontier }
+}
+
+pub fn found_end(s: Seen) -> Found
+    ensures { λ r. ⌜ r ≡ foundEnd s ⌝ }
+{
+    let ask = s.ask;
+    let id = ask.id;
+    let at = s.at;
+    let n = s.count;
+    let whole = is_whole(s);
+    let answer = list_answer(false, whole, false, (id == 0) | !(at < n), false);
+    if answer.number != 0 {
+        let none = free_slot();
+        return Found {
+            answer,
+            place: 0,
+            head: none,
+        };
+    }
+    let head = s.head;
+    Found {
+        answer,
+        place: at,
+        head,
+    }
+}
+
+pub fn match_end(s: Seen) -> Put
+    ensures { λ r. ⌜ r ≡ matchEnd s ⌝ }
+{
+    let ask = s.ask;
+    let id = ask.id;
+    let cap = ask.cap;
+    let at = s.at;
+    let free = s.free;
+    let n = s.count;
+    let whole = is_whole(s);
+    let limit = !((1 <= cap) & (cap <= Match::MOST_CAP));
+    let answer = list_answer(limit, whole, false, (id == 0) | (at < n), !(free < n));
+    if answer.number != 0 {
+        return put_nowhere(answer);
+    }
+    let acked = SequenceNumber::from_rank(0);
+    let head = ReaderHead {
+        id,
+        reliable: ask.reliable,
+        acked,
+    };
+    Put {
+        answer,
+        at: free,
+        head,
+    }
+}
+
+pub fn depart_end(s: Seen) -> Put
+    ensures { λ r. ⌜ r ≡ departEnd s ⌝ }
+{
+    let ask = s.ask;
+    let id = ask.id;
+    let at = s.at;
+    let n = s.count;
+    let whole = is_whole(s);
+    let answer = list_answer(false, whole, false, (id == 0) | !(at < n), false);
+    if answer.number != 0 {
+        return put_nowhere(answer);
+    }
+    let head = free_slot();
+    Put { answer, at, head }
+}
+
+pub fn acked_end(s: Seen) -> Put
+    ensures { λ r. ⌜ r ≡ ackedEnd s ⌝ }
+{
+    let ask = s.ask;
+    let id = ask.id;
+    let at = s.at;
+    let n = s.count;
+    let whole = is_whole(s);
+    let acked = ask.acked;
+    let below = acked.is_negative();
+    let answer = list_answer(false, whole, below, (id == 0) | !(at < n), false);
+    if answer.number != 0 {
+        return put_nowhere(answer);
+    }
+    let old = s.head;
+    let head = ReaderHead {
+        id,
+        reliable: old.reliable,
+        acked,
+    };
+    Put { answer, at, head }
+}

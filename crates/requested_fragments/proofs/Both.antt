@@ -1,0 +1,155 @@
+-- Entries in rooms, and back: the rooms that pass the check are those of their entries, and entries that are valid are those of their rooms. Assumes nothing.
+use Prim.Native.Nat.{ℕ, zero, suc, _+_, _-_, _*_, _/_, _%_, _^_, _≤_, _<_}
+use mathlib.Core.Path.{_≡_, refl, sym, ap, subst, _∙_}
+use mathlib.Core.Bool.{Bool, true, false, not, cond, _&&_, _||_}
+use mathlib.Core.Logic.{_⊎_, inl, inr}
+use mathlib.Core.List.{List, [], _∷_, _++_}
+use native.Mathlib.Omega.{arith}
+use lib.Dec.{eqb, ltb, leb}
+use lib.ListN.{length, take, drop, getD, set, replicate, getD-replicate, length-replicate, length-set, List·getD-eq-default}
+use lib.Seq.{getD-set-same, getD-set-other, set-out}
+use lib.Bits.{bitOr, or-lt}
+use lib.Pow.{pow-lt}
+use borrow.Author.Tests.{eqb-true, eqb-false, ltb-true, ltb-false}
+use Rattle.sets.specs.Sets.{has, From, empty, insert}
+use Rattle.sets.proofs.Bools.{decide, and-both}
+use Rattle.rising.specs.Runs.{risesAbove, roomOf}
+use Rattle.requested_fragments.specs.Words.{fragmentsOf, asking}
+use Rattle.requested_fragments.specs.Entries.{Entry, asked, samplesOf}
+use Rattle.requested_fragments.specs.Table.{Block, samplesIn, wordsIn, view, tableOf, entriesOf, coherentRooms, askAll, blocksFor, samplesRoom, wordsRoom}
+use Rattle.requested_fragments.proofs.Asking.{askAll-length}
+use Rattle.requested_fragments.proofs.Coherent.{Coherent, is-coherent, coherent-is}
+use Rattle.requested_fragments.proofs.Meaning.{Full, Within, askAll-new}
+use Rattle.requested_fragments.proofs.Form.{Fit, holdT, form-coherent, form-table, coherent-fit}
+use Rattle.requested_fragments.proofs.OneForm.{Words, Bounded, tables, bounded, is-form}
+use Rattle.requested_fragments.proofs.Frags.{frag-rises, frag-within}
+
+-- entries as they must be: at most 16, the samples rise and are sample numbers, each asks for something, and for fragments from 1 to 4,096
+abbrev pub Asks : List Entry → Type 0
+Asks [] = Unit {0}
+Asks (e ∷ es) = (From 1 (e .frags) × (Within (e .frags) 64 × (empty (e .frags) ≡ false))) × Asks es
+
+pub record Valid (es : List Entry) : Type 0 where
+  pub small : length es ≤ 16
+  pub rises : risesAbove 0 (samplesOf es) ≡ true
+  pub asks : Asks es
+
+samples-for : (es : List Entry) → samplesIn (blocksFor es) ≡ samplesOf es
+samples-for [] = refl
+samples-for (e ∷ es) = ap (λ (l : List ℕ). e .sample ∷ l) (samples-for es)
+
+length-for : (es : List Entry) → length (blocksFor es) ≡ length es
+length-for [] = refl
+length-for (e ∷ es) = ap suc (length-for es)
+
+full-for : (es : List Entry) → Full (blocksFor es)
+full-for [] = tt
+full-for (e ∷ es) = (askAll-length (e .frags) (replicate 64 0), full-for es)
+
+view-for : (es : List Entry) → Asks es → view (blocksFor es) ≡ es
+view-for [] h = refl
+view-for (e ∷ es) h =
+    ap (λ (l : List ℕ). record { sample = e .sample; frags = l } ∷ view (blocksFor es)) (askAll-new 64 (e .frags) (h .0 .0) (h .0 .1 .0))
+    ∙ ap (λ (l : List Entry). e ∷ l) (view-for es (h .1))
+
+hold-for : (es : List Entry) → Asks es → holdT (blocksFor es) ≡ true
+hold-for [] h = refl
+hold-for (e ∷ es) h =
+    and-both (not (empty (fragmentsOf (askAll (e .frags) (replicate 64 0))))) (holdT (blocksFor es))
+    (ap not (ap empty (askAll-new 64 (e .frags) (h .0 .0) (h .0 .1 .0)) ∙ h .0 .1 .1)) (hold-for es (h .1))
+
+fit-for : (es : List Entry) → Valid es → Fit (blocksFor es)
+fit-for es v =
+    record {
+      full = full-for es;
+      small = omega (arith, length-for es, v .small);
+      rises = ap (risesAbove 0) (samples-for es) ∙ v .rises;
+      holds = hold-for es (v .asks);
+    }
+
+-- THE ROOMS OF VALID ENTRIES pass the check, and hold these entries
+pub rooms-pass : (es : List Entry) → Valid es → coherentRooms (length es) (samplesRoom es) (wordsRoom es) ≡ true
+rooms-pass es v =
+    subst (λ (k : ℕ). coherentRooms k (samplesRoom es) (wordsRoom es) ≡ true) (length-for es)
+    (subst (λ (l : List ℕ). coherentRooms (length (blocksFor es)) (roomOf 16 l) (wordsRoom es) ≡ true) (samples-for es)
+    (coherent-is (length (blocksFor es)) (roomOf 16 (samplesIn (blocksFor es))) (wordsRoom es) (form-coherent (blocksFor es) (fit-for es v))))
+
+pub rooms-hold : (es : List Entry) → Valid es → entriesOf (length es) (samplesRoom es) (wordsRoom es) ≡ es
+rooms-hold es v =
+    ap (λ (k : ℕ). entriesOf k (samplesRoom es) (wordsRoom es)) (sym (length-for es))
+    ∙ ap (λ (l : List ℕ). entriesOf (length (blocksFor es)) (roomOf 16 l) (wordsRoom es)) (sym (samples-for es))
+    ∙ ap view (form-table (blocksFor es) (fit-for es v)) ∙ view-for es (v .asks)
+
+-- ---- back
+ask-words : (f : ℕ) (ws : List ℕ) → Words ws → Words (asking f ws)
+ask-words f ws h i = go (eqb f 0)
+  where
+    at : ℕ
+    at = (f - 1) / 64
+
+    one : bitOr (getD ws ((f - 1) / 64) 0) (2 ^ ((f - 1) % 64)) < 2 ^ 64
+    one = or-lt 64 (getD ws ((f - 1) / 64) 0) (2 ^ ((f - 1) % 64)) (h ((f - 1) / 64)) (pow-lt {i = (f - 1) % 64} {j = 64} (omega arith))
+
+    put : (eqb i ((f - 1) / 64) ≡ true) ⊎ (eqb i ((f - 1) / 64) ≡ false) → (ltb ((f - 1) / 64) (length ws) ≡ true) ⊎ (ltb ((f - 1) / 64) (length ws) ≡ false)
+        → getD (set ws ((f - 1) / 64) (bitOr (getD ws ((f - 1) / 64) 0) (2 ^ ((f - 1) % 64)))) i 0 < 2 ^ 64
+    put (inl e) (inl l) = rw (eqb-true i ((f - 1) / 64) e, getD-set-same ws ((f - 1) / 64) (bitOr (getD ws ((f - 1) / 64) 0) (2 ^ ((f - 1) % 64))) 0 (ltb-true ((f - 1) / 64) (length ws) l)) one
+    put (inr e) l = rw (getD-set-other ws ((f - 1) / 64) i (bitOr (getD ws ((f - 1) / 64) 0) (2 ^ ((f - 1) % 64))) 0 (eqb-false i ((f - 1) / 64) e)) (h i)
+    put (inl e) (inr l) = rw (set-out ws ((f - 1) / 64) (bitOr (getD ws ((f - 1) / 64) 0) (2 ^ ((f - 1) % 64))) (ltb-false ((f - 1) / 64) (length ws) l)) (h i)
+
+    go : (t : Bool) → getD (cond t ws (set ws ((f - 1) / 64) (bitOr (getD ws ((f - 1) / 64) 0) (2 ^ ((f - 1) % 64))))) i 0 < 2 ^ 64
+    go true = h i
+    go false = put (decide (eqb i ((f - 1) / 64))) (decide (ltb ((f - 1) / 64) (length ws)))
+
+all-words : (ms ws : List ℕ) → Words ws → Words (askAll ms ws)
+all-words [] ws h = h
+all-words (f ∷ fs) ws h = all-words fs (asking f ws) (ask-words f ws h)
+
+zero-words : (k : ℕ) → Words (replicate k 0)
+zero-words k i = go (decide (ltb i k))
+  where
+    go : (ltb i k ≡ true) ⊎ (ltb i k ≡ false) → getD (replicate k 0) i 0 < 2 ^ 64
+    go (inl e) = subst (λ (x : ℕ). x < 2 ^ 64) (sym (getD-replicate k i 0 0 (ltb-true i k e))) (omega arith)
+    go (inr e) = subst (λ (x : ℕ). x < 2 ^ 64) (sym (List·getD-eq-default (replicate k 0) 0 {n = i} (omega (arith, length-replicate {A = ℕ} k 0, ltb-false i k e)))) (omega arith)
+
+bounded-for : (es : List Entry) → Bounded (blocksFor es)
+bounded-for [] = tt
+bounded-for (e ∷ es) = (all-words (e .frags) (replicate 64 0) (zero-words 64), bounded-for es)
+
+asks-of : (t : List Block) → Full t → holdT t ≡ true → Asks (view t)
+asks-of [] f h = tt
+asks-of (b ∷ bs) f h = go (empty (fragmentsOf (b .words))) refl h (asks-of bs (f .1))
+  where
+    go : (z : Bool) → empty (fragmentsOf (b .words)) ≡ z → (not z && holdT bs) ≡ true → (holdT bs ≡ true → Asks (view bs)) → Asks (view (b ∷ bs))
+    go true e q r = absurd (omega-false q)
+      where
+        omega-false : false ≡ true → ⊥
+        omega-false w = let o : _≡_ {A = ℕ} 0 1 = cc in omega arith
+    go false e q r = ((frag-rises (b .words), (subst (λ (k : ℕ). Within (fragmentsOf (b .words)) k) (f .0) (frag-within (b .words)), e)), r q)
+
+view-samples : (t : List Block) → samplesOf (view t) ≡ samplesIn t
+view-samples [] = refl
+view-samples (b ∷ bs) = ap (λ (l : List ℕ). b .sample ∷ l) (view-samples bs)
+
+view-length : (t : List Block) → length (view t) ≡ length t
+view-length [] = refl
+view-length (b ∷ bs) = ap suc (view-length bs)
+
+pub entries-valid : (c : ℕ) (S W : List ℕ) → coherentRooms c S W ≡ true → Valid (entriesOf c S W)
+entries-valid c S W h =
+    let t = tableOf c S W in
+    let f = coherent-fit c S W (is-coherent c S W h) in
+    record { small = omega (arith, view-length t, f .small); rises = ap (risesAbove 0) (view-samples t) ∙ f .rises; asks = asks-of t (f .full) (f .holds) }
+
+-- ROOMS THAT PASS THE CHECK are those of their entries
+pub rooms-are : (c : ℕ) (S W : List ℕ) → coherentRooms c S W ≡ true → Words W → (c ≡ length (entriesOf c S W)) × (S ≡ samplesRoom (entriesOf c S W)) × (W ≡ wordsRoom (entriesOf c S W))
+rooms-are c S W h hw =
+    let k = is-coherent c S W h in
+    let t = tableOf c S W in
+    let es = entriesOf c S W in
+    let v = entries-valid c S W h in
+    let e : tableOf c S W ≡ blocksFor (entriesOf c S W) = tables t (blocksFor es) (coherent-fit c S W k .full) (full-for es) (bounded (take c S) W hw) (bounded-for es) (sym (view-for es (v .asks))) in
+    let a = is-form c S W k in (
+      a .0 ∙ sym (view-length t),
+      a .1 ∙ ap (λ (l : List ℕ). roomOf 16 l) (sym (view-samples t)),
+      a .2 ∙ ap (λ (x : List Block). roomOf 1024 (wordsIn x)) e,
+    )

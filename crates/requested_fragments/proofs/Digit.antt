@@ -1,0 +1,72 @@
+-- One bit of a word: what a set bit and a turned bit leave. Assumes nothing.
+use Prim.Native.Nat.{ℕ, zero, suc, _+_, _-_, _*_, _/_, _%_, _^_, _≤_, _<_}
+use mathlib.Core.Path.{_≡_, refl, sym, ap, subst, _∙_}
+use mathlib.Core.Bool.{Bool, true, false, not, cond, _&&_, _||_}
+use mathlib.Core.Logic.{_⊎_, inl, inr}
+use lib.Dec.{eqb, ltb}
+use lib.Bits.{bitOr, bitXor, bitAnd, or-shr, or-mod, xor-shr, xor-mod}
+use lib.Pow.{pow-pos, pow-add, pow-lt, shl-shr, shl-exact}
+use native.Mathlib.Omega.{arith}
+use native.Mathlib.Nat.{div-one, div-self, div-eq-of-lt, mul-one, mul-mod-left, pow-suc, mul-div-cancel}
+use borrow.Author.Tests.{eqb-true, eqb-false, eq-eqb, ne-eqb, ltb-true, ltb-false}
+use Rattle.requested_fragments.specs.Words.{bitOf}
+
+-- a digit, as a test and as a number
+two : (n : ℕ) → (n % 2 ≡ 0) ⊎ (n % 2 ≡ 1)
+two n = go (n % 2) (omega arith)
+  where
+    go : (r : ℕ) → r < 2 → (r ≡ 0) ⊎ (r ≡ 1)
+    go zero h = inl refl
+    go (suc zero) h = inr refl
+    go (suc (suc r)) h = absurd (omega arith)
+
+-- bit j of 2 ^ k
+pub one-bit : (k j : ℕ) → 2 ^ k / 2 ^ j % 2 ≡ cond (eqb j k) 1 0
+one-bit k j = go (eqb j k) refl (ltb j k) refl
+  where
+    go : (t : Bool) → eqb j k ≡ t → (u : Bool) → ltb j k ≡ u → 2 ^ k / 2 ^ j % 2 ≡ cond t 1 0
+    go true e u f =
+        ap (λ (x : ℕ). 2 ^ x / 2 ^ j % 2) (sym (eqb-true j k e)) ∙ ap (λ (x : ℕ). x % 2) (div-self (pow-pos j))
+    go false e true f =
+        let h : j < k = ltb-true j k f in
+        let w : k ≡ suc (k - suc j) + j = omega arith in
+        ap (λ (x : ℕ). 2 ^ x / 2 ^ j % 2) w
+        ∙ ap (λ (x : ℕ). x / 2 ^ j % 2) (pow-add 2 (suc (k - suc j)) j)
+        ∙ ap (λ (x : ℕ). x % 2) (shl-shr (2 ^ suc (k - suc j)) j)
+        ∙ ap (λ (x : ℕ). x % 2) (pow-suc 2 (k - suc j))
+        ∙ mul-mod-left (2 ^ (k - suc j)) 2
+    go false e false f =
+        let h : k < j = omega (arith, ltb-false j k f, eqb-false j k e) in
+        ap (λ (x : ℕ). x % 2) (div-eq-of-lt (pow-lt h))
+
+pub or-bit : (w k j : ℕ) → bitOf (bitOr w (2 ^ k)) j ≡ (bitOf w j || eqb j k)
+or-bit w k j =
+    ap (λ (x : ℕ). eqb (x % 2) 1) (or-shr w (2 ^ k) j)
+    ∙ ap (λ (x : ℕ). eqb x 1) (or-mod (w / 2 ^ j) (2 ^ k / 2 ^ j) 1)
+    ∙ ap (λ (x : ℕ). eqb (bitOr (w / 2 ^ j % 2) x) 1) (one-bit k j)
+    ∙ go (eqb j k) (two (w / 2 ^ j))
+  where
+    go : (t : Bool) → (w / 2 ^ j % 2 ≡ 0) ⊎ (w / 2 ^ j % 2 ≡ 1) → eqb (bitOr (w / 2 ^ j % 2) (cond t 1 0)) 1 ≡ (eqb (w / 2 ^ j % 2) 1 || t)
+    go true (inl e) = rw e refl
+    go true (inr e) = rw e refl
+    go false (inl e) = rw e refl
+    go false (inr e) = rw e refl
+
+-- where bit k is set, turning it clears it
+pub xor-bit : (w k j : ℕ) → bitOf w k ≡ true → bitOf (bitXor w (2 ^ k)) j ≡ (not (eqb j k) && bitOf w j)
+xor-bit w k j h =
+    ap (λ (x : ℕ). eqb (x % 2) 1) (xor-shr w (2 ^ k) j)
+    ∙ ap (λ (x : ℕ). eqb x 1) (xor-mod (w / 2 ^ j) (2 ^ k / 2 ^ j) 1)
+    ∙ ap (λ (x : ℕ). eqb (bitXor (w / 2 ^ j % 2) x) 1) (one-bit k j)
+    ∙ go (eqb j k) refl (two (w / 2 ^ j))
+  where
+    go : (t : Bool) → eqb j k ≡ t → (w / 2 ^ j % 2 ≡ 0) ⊎ (w / 2 ^ j % 2 ≡ 1) → eqb (bitXor (w / 2 ^ j % 2) (cond t 1 0)) 1 ≡ (not t && eqb (w / 2 ^ j % 2) 1)
+    go true f r =
+        let e : w / 2 ^ j % 2 ≡ 1 = ap (λ (x : ℕ). w / 2 ^ x % 2) (eqb-true j k f) ∙ eqb-true (w / 2 ^ k % 2) 1 h in
+        rw e refl
+    go false f (inl e) = rw e refl
+    go false f (inr e) = rw e refl
+
+-- what `1 << k` gives
+pub one-shl : (k : ℕ) → k < 64 → (1 * 2 ^ k) % 2 ^ 64 ≡ 2 ^ k
+one-shl k h = shl-exact 1 k 64 (omega arith) (omega arith) ∙ omega arith

@@ -1,0 +1,22 @@
+-- Laws that belong to no one function.
+pub mod Digit
+pub mod Frags
+pub mod Cases
+pub mod Blocks
+pub mod Mark
+pub mod Laws
+pub mod Asking
+pub mod Joined
+pub mod Onward
+pub mod Requests
+pub mod Meaning
+pub mod Coherent
+pub mod Form
+pub mod Drained
+pub mod Whole
+pub mod Plays
+pub mod Examples
+pub mod AskForm
+pub mod OneForm
+pub mod Unique
+pub mod Both

@@ -1,0 +1,134 @@
+// The table of requested fragments in two rooms: sample numbers, and 64 words of bits for each. Each call answers for any rooms and any count.
+ghost use mathlib.Core.Path.{_≡_};
+ghost use mathlib.Core.Bool.{not};
+ghost use mathlib.Core.List.{_++_};
+ghost use Prim.Native.Nat.{_+_, _*_, _≤_};
+ghost use lib.ListN.{length, take, drop};
+ghost use Rattle.sets.specs.Sets.{empty};
+ghost use Rattle.numbers.specs.Promise.{Gives2};
+ghost use Rattle.requested_fragments.specs.Words.{fragmentsOf, notAsking};
+ghost use Rattle.requested_fragments.specs.Table.{coherentRooms, allHold, tableOf, entriesOf, markT, holding, markedIn, nextOf};
+ghost use Rattle.requested_fragments.specs.Find.{indexOf};
+use crate::bits;
+
+// A fragment of a sample, unless there is none.
+pub struct NextPiece {
+    pub none: bool,
+    pub sample: u64,
+    pub fragment: u64,
+}
+
+// Whether each of the first count blocks asks for something.
+fn all_hold(words: &[u64], count: usize) -> bool
+    requires { ⌜ (64 * count ≤ length (now words)) × (count ≤ 16) ⌝ }
+    ensures { λ r. ⌜ r ≡ allHold count (now (words .entry)) ⌝ }
+{
+    let mut good = true;
+    let mut i = 0;
+    while i < count {
+        let a = i * 64;
+        let e = a + 64;
+        good = good & bits::any(&words[a..e]);
+        i += 1;
+    }
+    good
+}
+
+// Whether the rooms are what a reader record's are: 16 samples, 16 times 64 words.
+pub fn coherent(samples: &[u64], words: &[u64], count: usize) -> bool
+    ensures { λ r. ⌜ r ≡ coherentRooms count (now (samples .entry)) (now (words .entry)) ⌝ }
+{
+    if samples.len() != 16 {
+        return false;
+    }
+    if words.len() != 1024 {
+        return false;
+    }
+    if !rising::run::run_ok(samples, count, 0) {
+        return false;
+    }
+    let a = count * 64;
+    let held = all_hold(words, count);
+    held & rising::run::all_zero(&words[a..])
+}
+
+// The place of n, or the length where it isn't there.
+fn find(s: &[u64], n: u64) -> usize
+    ensures { λ r. ⌜ r ≡ indexOf n (now (s .entry)) ⌝ }
+{
+    let mut i = 0;
+    while i < s.len() {
+        if s[i] == n {
+            return i;
+        }
+        i += 1;
+    }
+    i
+}
+
+// Fragment f of the block at a is no more asked for; whether the block still asks for something.
+fn clear_at(words: &mut [u64], a: usize, f: u64) -> bool
+    requires { ⌜ a + 64 ≤ length (now words) ⌝ }
+    ensures { λ r. ⌜ (r ≡ not (empty (fragmentsOf (notAsking f (take 64 (drop a (now (words .entry))))))))
+        × (now (words .exit) ≡ take a (now (words .entry)) ++ (notAsking f (take 64 (drop a (now (words .entry)))) ++ drop (a + 64) (now (words .entry)))) ⌝ }
+{
+    let e = a + 64;
+    bits::unask(&mut words[a..e], f);
+    bits::any(&words[a..e])
+}
+
+// Fragment f of sample n is sent: its bit is cleared, and a block left empty goes. How many blocks there are.
+pub fn mark_sent(samples: &mut [u64], words: &mut [u64], count: usize, n: u64, f: u64) -> usize
+    ensures { λ r. ⌜ Gives2 r (now (samples .exit)) (now (words .exit)) (markedIn n f count (now (samples .entry)) (now (words .entry))) ⌝ }
+{
+    if samples.len() < count {
+        return count;
+    }
+    if words.len() / 64 < count {
+        return count;
+    }
+    let e = find(&samples[..count], n);
+    if count <= e {
+        return count;
+    }
+    let a = e * 64;
+    if clear_at(words, a, f) {
+        return count;
+    }
+    let end = count * 64;
+    rising::room::cut(words, end, a, 64);
+    rising::room::cut(samples, count, e, 1)
+}
+
+// The next fragment at or after f: the smallest of the smallest sample.
+pub fn next(samples: &[u64], words: &[u64], count: usize, f: u64) -> NextPiece
+    ensures { λ r. ⌜ r ≡ nextOf f (entriesOf count (now (samples .entry)) (now (words .entry))) ⌝ }
+{
+    if count == 0 {
+        return NextPiece {
+            none: true,
+            sample: 0,
+            fragment: 0,
+        };
+    }
+    if samples.len() == 0 {
+        return NextPiece {
+            none: true,
+            sample: 0,
+            fragment: 0,
+        };
+    }
+    let k = bits::next(words, f);
+    if k == 0 {
+        return NextPiece {
+            none: true,
+            sample: 0,
+            fragment: 0,
+        };
+    }
+    NextPiece {
+        none: false,
+        sample: samples[0],
+        fragment: k,
+    }
+}

@@ -1,0 +1,58 @@
+-- `first_from` meets its contract. Assumes nothing.
+use Prim.Native.Nat.{ℕ}
+use mathlib.Core.Path.{_≡_, sym, ap, _∙_}
+use mathlib.Core.List.{List}
+use native.Mathlib.Omega.{arith}
+use lib.ListN.{length, take, drop, getD}
+use lib.Seq.{length-take-le, getD-take}
+use Rattle.sets.specs.Sets.{firstOr}
+use Rattle.rising.specs.Runs.{fromOn, placeOf}
+use Rattle.rising.proofs.Scans.{take-min, first-at, first-none}
+use borrow.Author.Needs.{needs}
+use Rattle.rising.proofs.room.first_from.Statement.{statement}
+use Rattle.rising.proofs.room.first_from.Tie as tie
+use Rattle.rising.proofs.room.first_from.Reads as reads
+use Rattle.rising.proofs.room.first_from.Lts as lts
+use Rattle.rising.proofs.run.place.Reads as place-reads
+use Rattle.rising.proofs.run.smaller.Reads as smaller-reads
+
+smaller-requires : tie.Need-smaller-requires
+smaller-requires c κs = search needs
+
+slice-aggregate-place : tie.Need-slice-aggregate-place
+slice-aggregate-place c = sym (length-take-le (c .before .smaller .result) (c .before .before .before .args .s .now) (omega (arith, c .before .smaller .ensures)))
+
+place-requires : tie.Need-place-requires
+place-requires c κs = search needs
+
+mul-result : tie.Need-mul-result
+mul-result c = search needs
+
+shared-slice-read-result : tie.Need-shared-slice-read-result
+shared-slice-read-result c = search needs
+
+returns : tie.Need-returns
+returns c =
+    let l = take (c .before .before .before .before .smaller .result) (c .before .before .before .before .before .before .args .s .now) in
+    let n : length l ≡ c .before .before .before .before .smaller .result = length-take-le (c .before .before .before .before .smaller .result) (c .before .before .before .before .before .before .args .s .now) (omega (arith, c .before .before .before .before .smaller .ensures)) in
+    sym (getD-take (c .before .before .before .before .smaller .result) (c .before .before .before .before .before .before .args .s .now) (c .before .before .place .result) 0 (c .before .if1 .taken)) ∙ first-at l (c .before .before .place .result) (omega arith)
+    ∙ ap (λ (i : ℕ). firstOr 0 (drop i l)) (c .before .before .place .ensures) ∙ ap (λ (x : List ℕ). firstOr 0 (fromOn (c .before .before .before .before .before .before .args .n) x)) (ap (λ (k : ℕ). take k (c .before .before .before .before .before .before .args .s .now)) (c .before .before .before .before .smaller .ensures) ∙ take-min (c .before .before .before .before .before .before .args .count) (c .before .before .before .before .before .before .args .s .now))
+
+returns-2 : tie.Need-returns-2
+returns-2 c =
+    let l = take (c .before .before .before .smaller .result) (c .before .before .before .before .before .args .s .now) in
+    let n : length l ≡ c .before .before .before .smaller .result = length-take-le (c .before .before .before .smaller .result) (c .before .before .before .before .before .args .s .now) (omega (arith, c .before .before .before .smaller .ensures)) in
+    first-none l (c .before .place .result) (omega arith)
+    ∙ ap (λ (i : ℕ). firstOr 0 (drop i l)) (c .before .place .ensures) ∙ ap (λ (x : List ℕ). firstOr 0 (fromOn (c .before .before .before .before .before .args .n) x)) (ap (λ (k : ℕ). take k (c .before .before .before .before .before .args .s .now)) (c .before .before .before .smaller .ensures) ∙ take-min (c .before .before .before .before .before .args .count) (c .before .before .before .before .before .args .s .now))
+
+pub first-from-spec : {M : Type 1} → statement M
+first-from-spec =
+    tie.close
+    (tie.spec
+    smaller-requires
+    slice-aggregate-place
+    place-requires
+    mul-result
+    shared-slice-read-result
+    returns
+    returns-2)

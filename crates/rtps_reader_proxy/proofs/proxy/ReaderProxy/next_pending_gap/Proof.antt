@@ -1,0 +1,70 @@
+-- `next_pending_gap` meets its contract. Assumes nothing.
+use Prim.Native.Nat.{ℕ, _≤_, _<_, _+_, _-_, max}
+use mathlib.Core.Path.{_≡_, refl, sym, ap, _∙_}
+use mathlib.Core.List.{List, [], _∷_}
+use mathlib.Core.Bool.{Bool, not, false}
+use native.Mathlib.Omega.{arith}
+use lib.ListN.{length, take}
+use Rattle.rtps_reader_proxy.proofs.GapCalls.{next-gap}
+use borrow.Author.Needs.{needs}
+use Rattle.rtps_reader_proxy.proofs.proxy.ReaderProxy.next_pending_gap.Statement.{
+  statement,
+}
+use Rattle.rtps_reader_proxy.proofs.proxy.ReaderProxy.next_pending_gap.Tie as tie
+use Rattle.rtps_reader_proxy.proofs.proxy.ReaderProxy.next_pending_gap.Reads as reads
+use Rattle.rtps_reader_proxy.proofs.proxy.ReaderProxy.next_pending_gap.Lts as lts
+use Rattle.numbers.proofs.answer.Rows.none.Reads as none-reads
+use Rattle.numbers.proofs.cursor.NextNumber.of.Reads as of-reads
+use Rattle.numbers.proofs.sequence_number.SequenceNumber.rank.Reads as rank-reads
+use Rattle.rising.proofs.room.first_from.Reads as first-from-reads
+use Rattle.rtps_reader_proxy.proofs.arith.larger.Reads as larger-reads
+use Rattle.rtps_reader_proxy.proofs.gaps.first_gap.Reads as first-gap-reads
+use Rattle.rtps_reader_proxy.proofs.proxy.ReaderProxy.gaps_ok.Reads as gaps-ok-reads
+
+rank-requires : tie.Need-rank-requires
+rank-requires c κs = search needs
+
+larger-requires : tie.Need-larger-requires
+larger-requires c κs = search needs
+
+larger-requires-2 : tie.Need-larger-requires-2
+larger-requires-2 c κs = search needs
+
+rank-requires-2 : tie.Need-rank-requires-2
+rank-requires-2 c κs = search needs
+
+first-from-requires : tie.Need-first-from-requires
+first-from-requires c κs = search needs
+
+first-gap-requires : tie.Need-first-gap-requires
+first-gap-requires c κs = search needs
+
+none-requires : tie.Need-none-requires
+none-requires c κs = search needs
+
+gaps-ok-requires : tie.Need-gaps-ok-requires
+gaps-ok-requires c κs = search needs
+
+of-requires : tie.Need-of-requires
+of-requires c κs = search needs
+
+returns : tie.Need-returns
+returns c =
+    rw (c .of .ensures, c .before .before .none .ensures, c .before .gaps-ok .ensures)
+    (next-gap (c .before .before .before .before .before .before .before .before .before .before .args .at) (c .before .before .before .before .before .before .before .before .before .before .args .self) (c .before .before .before .before .before .before .before .before .before .before .args .gaps .now) (c .before .before .before .before .before .before .larger2 .result) (c .before .before .before .before .first-from .result) (c .before .before .before .first-gap .result)
+    (c .before .before .before .before .before .before .larger2 .ensures ∙ ap (max (c .before .before .before .before .before .before .before .before .before .before .args .at .from)) (c .before .before .before .before .before .before .before .larger .ensures ∙ ap (max 1) (c .before .before .before .before .before .before .before .before .rank .ensures .is))) (c .before .before .before .before .first-from .ensures) (c .before .before .before .first-gap .ensures ∙ rw (c .before .before .before .before .before .rank2 .ensures .is)))
+
+pub next-pending-gap-spec : {M : Type 1} → statement M
+next-pending-gap-spec =
+    tie.close
+    (tie.spec
+    rank-requires
+    larger-requires
+    larger-requires-2
+    rank-requires-2
+    first-from-requires
+    first-gap-requires
+    none-requires
+    gaps-ok-requires
+    of-requires
+    returns)

@@ -1,0 +1,38 @@
+-- `next_unsent_change` meets its contract. Assumes nothing.
+use Prim.Native.Nat.{ℕ, _≤_, _<_, _+_, _-_, max}
+use mathlib.Core.Path.{_≡_, refl, sym, ap, _∙_}
+use mathlib.Core.List.{List, [], _∷_}
+use mathlib.Core.Bool.{Bool, not, false}
+use native.Mathlib.Omega.{arith}
+use lib.ListN.{length, take}
+use Rattle.rtps_reader_proxy.proofs.UnsentCalls.{next-unsent}
+use borrow.Author.Needs.{needs}
+use Rattle.rtps_reader_proxy.proofs.proxy.ReaderProxy.next_unsent_change.Statement.{
+  statement,
+}
+use Rattle.rtps_reader_proxy.proofs.proxy.ReaderProxy.next_unsent_change.Tie as tie
+use Rattle.rtps_reader_proxy.proofs.proxy.ReaderProxy.next_unsent_change.Reads as reads
+use Rattle.rtps_reader_proxy.proofs.proxy.ReaderProxy.next_unsent_change.Lts as lts
+use Rattle.numbers.proofs.answer.Rows.none.Reads as none-reads
+use Rattle.numbers.proofs.cursor.NextNumber.of.Reads as of-reads
+use Rattle.rising.proofs.room.first_from.Reads as first-from-reads
+use Rattle.rtps_reader_proxy.proofs.proxy.ReaderProxy.unsent_ok.Reads as unsent-ok-reads
+
+first-from-requires : tie.Need-first-from-requires
+first-from-requires c κs = search needs
+
+none-requires : tie.Need-none-requires
+none-requires c κs = search needs
+
+unsent-ok-requires : tie.Need-unsent-ok-requires
+unsent-ok-requires c κs = search needs
+
+of-requires : tie.Need-of-requires
+of-requires c κs = search needs
+
+returns : tie.Need-returns
+returns c = rw (c .of .ensures, c .before .before .none .ensures, c .before .unsent-ok .ensures) (next-unsent (c .before .before .before .before .before .args .at) (c .before .before .before .before .before .args .self) (c .before .before .before .before .before .args .unsent .now) (c .before .before .before .first-from .result) (c .before .before .before .first-from .ensures))
+
+pub next-unsent-change-spec : {M : Type 1} → statement M
+next-unsent-change-spec =
+    tie.close (tie.spec first-from-requires none-requires unsent-ok-requires of-requires returns)

@@ -1,0 +1,101 @@
+-- `locate` meets its contract. Assumes nothing.
+use mathlib.Core.Path.{_≡_, _∙_}
+use mathlib.Core.Bool.{_&&_}
+use Prim.Native.Nat.{_-_}
+use native.Mathlib.Omega.{arith}
+use lib.Dec.{leb}
+use lib.ListN.{getD}
+use Rattle.numbers.specs.Number.{rankOf}
+use Rattle.numbers.specs.Refusals.{answerOf, done}
+use Rattle.numbers.proofs.Refused.{clear, is-refused, is-done}
+use Rattle.writer_send_buffer.specs.declared.samples.Located.{Located}
+use Rattle.writer_send_buffer.specs.Buffer.{view, fetched}
+use Rattle.writer_send_buffer.specs.Samples.{fetchRows, startOf, slotOf}
+use Rattle.writer_send_buffer.proofs.Calls.{is-0}
+use Rattle.writer_send_buffer.proofs.Lists.{area, slot-in}
+use Rattle.writer_send_buffer.proofs.Sound.{fetches-is, slot-below}
+use borrow.Author.Needs.{needs}
+use Rattle.writer_send_buffer.proofs.flow.WriterSendBuffer.locate.Statement.{statement}
+use Rattle.writer_send_buffer.proofs.flow.WriterSendBuffer.locate.Tie as tie
+
+rank-requires : tie.Need-rank-requires
+rank-requires c κs = search needs
+
+rank-requires-2 : tie.Need-rank-requires-2
+rank-requires-2 c κs = search needs
+
+rank-requires-3 : tie.Need-rank-requires-3
+rank-requires-3 c κs = search needs
+
+is-coherent-store-requires : tie.Need-is-coherent-store-requires
+is-coherent-store-requires c κs = search needs
+
+fetch-answer-requires : tie.Need-fetch-answer-requires
+fetch-answer-requires c κs = search needs
+
+returns : tie.Need-returns
+returns c =
+    let f = c .before .before .before .before .before .before .before .before .args .self in
+    let q : c .before .before .fetch-answer .result ≡ answerOf (fetchRows f (c .before .before .before .before .before .before .before .before .args .room) (c .before .before .before .before .before .before .before .before .args .lens .now) (c .before .before .before .before .before .before .before .before .args .number)) = c .before .before .fetch-answer .ensures ∙ (λ i. answerOf (fetched (c .before .before .before .is-coherent-store .ensures i) (leb (c .before .before .before .before .rank3 .ensures .is i) (c .before .before .before .before .before .before .rank .ensures .is i) && leb (c .before .before .before .before .before .before .rank .ensures .is i) (c .before .before .before .before .before .rank2 .ensures .is i)))) in
+    is-refused {A = Located} (fetchRows f (c .before .before .before .before .before .before .before .before .args .room) (c .before .before .before .before .before .before .before .before .args .lens .now) (c .before .before .before .before .before .before .before .before .args .number)) (c .before .before .fetch-answer .result) q (λ no. record { answer = no; start = 0; length = 0 }) (record { answer = done; start = startOf (view f) (rankOf (c .before .before .before .before .before .before .before .before .args .number)); length = getD (c .before .before .before .before .before .before .before .before .args .lens .now) (slotOf (view f) (rankOf (c .before .before .before .before .before .before .before .before .args .number))) 0 }) (c .if1 .taken)
+
+sub-slot : tie.Need-sub-slot
+sub-slot c =
+    let f = c .before .before .before .before .before .before .before .before .before .args .self in
+    let q : c .before .before .before .fetch-answer .result ≡ answerOf (fetchRows f (c .before .before .before .before .before .before .before .before .before .args .room) (c .before .before .before .before .before .before .before .before .before .args .lens .now) (c .before .before .before .before .before .before .before .before .before .args .number)) = c .before .before .before .fetch-answer .ensures ∙ (λ i. answerOf (fetched (c .before .before .before .before .is-coherent-store .ensures i) (leb (c .before .before .before .before .before .rank3 .ensures .is i) (c .before .before .before .before .before .before .before .rank .ensures .is i) && leb (c .before .before .before .before .before .before .before .rank .ensures .is i) (c .before .before .before .before .before .before .rank2 .ensures .is i)))) in
+    let k = fetches-is f (c .before .before .before .before .before .before .before .before .before .args .room) (c .before .before .before .before .before .before .before .before .before .args .lens .now) (c .before .before .before .before .before .before .before .before .before .args .number) (clear (fetchRows f (c .before .before .before .before .before .before .before .before .before .args .room) (c .before .before .before .before .before .before .before .before .before .args .lens .now) (c .before .before .before .before .before .before .before .before .before .args .number)) (c .before .before .before .fetch-answer .result) q (c .before .if1 .left)) in
+    omega (arith, k .sound .flow .numbers .first-some, k .low, c .before .before .before .before .before .before .before .rank .ensures .is)
+
+rem-slot : tie.Need-rem-slot
+rem-slot c =
+    let f = c .before .before .before .before .before .before .before .before .before .before .args .self in
+    let q : c .before .before .before .before .fetch-answer .result ≡ answerOf (fetchRows f (c .before .before .before .before .before .before .before .before .before .before .args .room) (c .before .before .before .before .before .before .before .before .before .before .args .lens .now) (c .before .before .before .before .before .before .before .before .before .before .args .number)) = c .before .before .before .before .fetch-answer .ensures ∙ (λ i. answerOf (fetched (c .before .before .before .before .before .is-coherent-store .ensures i) (leb (c .before .before .before .before .before .before .rank3 .ensures .is i) (c .before .before .before .before .before .before .before .before .rank .ensures .is i) && leb (c .before .before .before .before .before .before .before .before .rank .ensures .is i) (c .before .before .before .before .before .before .before .rank2 .ensures .is i)))) in
+    let k = fetches-is f (c .before .before .before .before .before .before .before .before .before .before .args .room) (c .before .before .before .before .before .before .before .before .before .before .args .lens .now) (c .before .before .before .before .before .before .before .before .before .before .args .number) (clear (fetchRows f (c .before .before .before .before .before .before .before .before .before .before .args .room) (c .before .before .before .before .before .before .before .before .before .before .args .lens .now) (c .before .before .before .before .before .before .before .before .before .before .args .number)) (c .before .before .before .before .fetch-answer .result) q (c .before .before .if1 .left)) in
+    omega (arith, k .sound .flow .limits .slots-some)
+
+mul-t18 : tie.Need-mul-t18
+mul-t18 c =
+    let f = c .before .before .before .before .before .before .before .before .before .before .args .self in
+    let q : c .before .before .before .before .fetch-answer .result ≡ answerOf (fetchRows f (c .before .before .before .before .before .before .before .before .before .before .args .room) (c .before .before .before .before .before .before .before .before .before .before .args .lens .now) (c .before .before .before .before .before .before .before .before .before .before .args .number)) = c .before .before .before .before .fetch-answer .ensures ∙ (λ i. answerOf (fetched (c .before .before .before .before .before .is-coherent-store .ensures i) (leb (c .before .before .before .before .before .before .rank3 .ensures .is i) (c .before .before .before .before .before .before .before .before .rank .ensures .is i) && leb (c .before .before .before .before .before .before .before .before .rank .ensures .is i) (c .before .before .before .before .before .before .before .rank2 .ensures .is i)))) in
+    let k = fetches-is f (c .before .before .before .before .before .before .before .before .before .before .args .room) (c .before .before .before .before .before .before .before .before .before .before .args .lens .now) (c .before .before .before .before .before .before .before .before .before .before .args .number) (clear (fetchRows f (c .before .before .before .before .before .before .before .before .before .before .args .room) (c .before .before .before .before .before .before .before .before .before .before .args .lens .now) (c .before .before .before .before .before .before .before .before .before .before .args .number)) (c .before .before .before .before .fetch-answer .result) q (c .before .before .if1 .left)) in
+    let i = slot-below f (c .before .before .before .before .before .before .before .before .rank .result - 1) (k .sound .flow .limits) in
+    record { fits = omega (arith, slot-in (f .limits .«slot_bytes») i, area (k .sound .flow .limits .slots-few) (k .sound .flow .limits .bytes-few)) }
+
+mul-t19 : tie.Need-mul-t19
+mul-t19 c =
+    let f = c .before .before .before .before .before .before .before .before .before .before .args .self in
+    let q : c .before .before .before .before .fetch-answer .result ≡ answerOf (fetchRows f (c .before .before .before .before .before .before .before .before .before .before .args .room) (c .before .before .before .before .before .before .before .before .before .before .args .lens .now) (c .before .before .before .before .before .before .before .before .before .before .args .number)) = c .before .before .before .before .fetch-answer .ensures ∙ (λ i. answerOf (fetched (c .before .before .before .before .before .is-coherent-store .ensures i) (leb (c .before .before .before .before .before .before .rank3 .ensures .is i) (c .before .before .before .before .before .before .before .before .rank .ensures .is i) && leb (c .before .before .before .before .before .before .before .before .rank .ensures .is i) (c .before .before .before .before .before .before .before .rank2 .ensures .is i)))) in
+    let k = fetches-is f (c .before .before .before .before .before .before .before .before .before .before .args .room) (c .before .before .before .before .before .before .before .before .before .before .args .lens .now) (c .before .before .before .before .before .before .before .before .before .before .args .number) (clear (fetchRows f (c .before .before .before .before .before .before .before .before .before .before .args .room) (c .before .before .before .before .before .before .before .before .before .before .args .lens .now) (c .before .before .before .before .before .before .before .before .before .before .args .number)) (c .before .before .before .before .fetch-answer .result) q (c .before .before .if1 .left)) in
+    let i = slot-below f (c .before .before .before .before .before .before .before .before .rank .result - 1) (k .sound .flow .limits) in
+    record { fits = omega (arith, i, k .sound .flow .limits .slots-few) }
+
+shared-slice-read-t16 : tie.Need-shared-slice-read-t16
+shared-slice-read-t16 c =
+    let f = c .before .before .before .before .before .before .before .before .before .before .before .args .self in
+    let q : c .before .before .before .before .before .fetch-answer .result ≡ answerOf (fetchRows f (c .before .before .before .before .before .before .before .before .before .before .before .args .room) (c .before .before .before .before .before .before .before .before .before .before .before .args .lens .now) (c .before .before .before .before .before .before .before .before .before .before .before .args .number)) = c .before .before .before .before .before .fetch-answer .ensures ∙ (λ i. answerOf (fetched (c .before .before .before .before .before .before .is-coherent-store .ensures i) (leb (c .before .before .before .before .before .before .before .rank3 .ensures .is i) (c .before .before .before .before .before .before .before .before .before .rank .ensures .is i) && leb (c .before .before .before .before .before .before .before .before .before .rank .ensures .is i) (c .before .before .before .before .before .before .before .before .rank2 .ensures .is i)))) in
+    let k = fetches-is f (c .before .before .before .before .before .before .before .before .before .before .before .args .room) (c .before .before .before .before .before .before .before .before .before .before .before .args .lens .now) (c .before .before .before .before .before .before .before .before .before .before .before .args .number) (clear (fetchRows f (c .before .before .before .before .before .before .before .before .before .before .before .args .room) (c .before .before .before .before .before .before .before .before .before .before .before .args .lens .now) (c .before .before .before .before .before .before .before .before .before .before .before .args .number)) (c .before .before .before .before .before .fetch-answer .result) q (c .before .before .before .if1 .left)) in
+    let i = slot-below f (c .before .before .before .before .before .before .before .before .before .rank .result - 1) (k .sound .flow .limits) in
+    omega (arith, i, k .sound .lens-length)
+
+returns-2 : tie.Need-returns-2
+returns-2 c =
+    let f = c .before .before .before .before .before .before .before .before .before .before .before .args .self in
+    let q : c .before .before .before .before .before .fetch-answer .result ≡ answerOf (fetchRows f (c .before .before .before .before .before .before .before .before .before .before .before .args .room) (c .before .before .before .before .before .before .before .before .before .before .before .args .lens .now) (c .before .before .before .before .before .before .before .before .before .before .before .args .number)) = c .before .before .before .before .before .fetch-answer .ensures ∙ (λ i. answerOf (fetched (c .before .before .before .before .before .before .is-coherent-store .ensures i) (leb (c .before .before .before .before .before .before .before .rank3 .ensures .is i) (c .before .before .before .before .before .before .before .before .before .rank .ensures .is i) && leb (c .before .before .before .before .before .before .before .before .before .rank .ensures .is i) (c .before .before .before .before .before .before .before .before .rank2 .ensures .is i)))) in
+    rw (is-0 (c .before .before .before .before .before .fetch-answer .result) (c .before .before .before .if1 .left), c .before .before .before .before .before .before .before .before .before .rank .ensures .is) (is-done {A = Located} (fetchRows f (c .before .before .before .before .before .before .before .before .before .before .before .args .room) (c .before .before .before .before .before .before .before .before .before .before .before .args .lens .now) (c .before .before .before .before .before .before .before .before .before .before .before .args .number)) (c .before .before .before .before .before .fetch-answer .result) q (λ no. record { answer = no; start = 0; length = 0 }) (record { answer = done; start = startOf (view f) (rankOf (c .before .before .before .before .before .before .before .before .before .before .before .args .number)); length = getD (c .before .before .before .before .before .before .before .before .before .before .before .args .lens .now) (slotOf (view f) (rankOf (c .before .before .before .before .before .before .before .before .before .before .before .args .number))) 0 }) (c .before .before .before .if1 .left))
+
+pub locate-spec : {M : Type 1} → statement M
+locate-spec =
+    tie.close
+    (tie.spec
+    rank-requires
+    rank-requires-2
+    rank-requires-3
+    is-coherent-store-requires
+    fetch-answer-requires
+    returns
+    sub-slot
+    rem-slot
+    mul-t18
+    mul-t19
+    shared-slice-read-t16
+    returns-2)

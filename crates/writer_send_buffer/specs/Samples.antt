@@ -1,0 +1,104 @@
+-- The retained samples in a lent store, and what the calls on it leave. A lent room beside it has the samples' lengths. Assumes nothing.
+use Prim.Native.Nat.{ℕ, zero, suc, _+_, _-_, _*_, _%_, _<_, _≤_}
+use mathlib.Core.Bool.{Bool, true, _&&_}
+use mathlib.Core.List.{List, [], _∷_, _++_}
+use lib.ListN.{length, take, drop, getD, set}
+use lib.Dec.{leb, eqb}
+use Rattle.numbers.specs.Number.{rankOf, numberAt}
+use Rattle.numbers.specs.Refusals.{unless, done}
+use Rattle.numbers.specs.Promise.{Left2, Left3}
+use Rattle.numbers.specs.declared.answer.Rows.{Rows}
+use Rattle.numbers.specs.declared.sequence_number.SequenceNumber.{SequenceNumber}
+use Rattle.writer_send_buffer.specs.declared.flow.WriterSendBuffer.{WriterSendBuffer}
+use Rattle.writer_send_buffer.specs.declared.flow.Numbered.{Numbered}
+use Rattle.writer_send_buffer.specs.declared.samples.Admitted.{Admitted}
+use Rattle.writer_send_buffer.specs.declared.samples.Located.{Located}
+use Rattle.writer_send_buffer.specs.Flow.{Flow, allOf, admitRows, admitted, retained}
+use Rattle.writer_send_buffer.specs.Buffer.{view, form, isCoherent, noNumber, fetched}
+
+-- WHERE A SAMPLE STANDS
+
+-- sample n stands in slot (n − 1) mod S: "freed slots are used again"
+abbrev pub slotOf : Flow → ℕ → ℕ
+slotOf f n = (n - 1) % f .limits .slots
+
+abbrev pub startOf : Flow → ℕ → ℕ
+startOf f n = slotOf f n * f .limits .«slot_bytes»
+
+-- the bytes of sample n, in the store s
+abbrev pub bytesOf : Flow → List ℕ → List ℕ → ℕ → List ℕ
+bytesOf f s lens n = take (getD lens (slotOf f n) 0) (drop (startOf f n) s)
+
+-- s with the bytes p from a on
+abbrev pub over : List ℕ → ℕ → List ℕ → List ℕ
+over s a p = take a s ++ (p ++ drop (a + length p) s)
+
+-- COHERENCE
+
+-- of the c samples that follow number m, each has a length of at most b; there are s slots
+abbrev pub lengthsFit : List ℕ → ℕ → ℕ → ℕ → ℕ → Bool
+lengthsFit l s b m zero = true
+lengthsFit l s b m (suc c) = leb (getD l (m % s) 0) b && lengthsFit l s b (suc m) c
+
+-- "The lent store: exactly S times the bytes per slot long, and every retained sample's length fits a slot"
+abbrev pub storeRows : WriterSendBuffer → ℕ → List ℕ → List Bool
+storeRows f room lens =
+    isCoherent f
+    ∷ eqb (length lens) (f .limits .slots)
+    ∷ eqb room (f .limits .slots * f .limits .«slot_bytes»)
+    ∷ lengthsFit lens (length lens) (f .limits .«slot_bytes») (rankOf (f .first) - 1) (rankOf (f .last) + 1 - rankOf (f .first))
+    ∷ []
+
+-- `room` is the length of the store
+abbrev pub isCoherentStore : WriterSendBuffer → ℕ → List ℕ → Bool
+isCoherentStore f room lens = allOf (storeRows f room lens)
+
+-- ADMISSION
+
+-- what refuses a write of `len` bytes
+abbrev pub writeRows : WriterSendBuffer → ℕ → List ℕ → ℕ → Bool → Rows
+writeRows f room lens len opted = admitRows (isCoherentStore f room lens) len (view f) opted
+
+abbrev pub admitOf : WriterSendBuffer → List ℕ → List ℕ → List ℕ → Bool → Left3 Numbered WriterSendBuffer (List ℕ) (List ℕ)
+admitOf f s lens p opted =
+    unless (writeRows f (length s) lens (length p) opted)
+    (λ no. record { result = noNumber no; first = f; second = s; third = lens })
+    (record {
+      result = record { answer = done; number = numberAt (rankOf (f .last) + 1) };
+      first = form (admitted (view f) opted);
+      second = over s (startOf (view f) (rankOf (f .last) + 1)) p;
+      third = set lens (slotOf (view f) (rankOf (f .last) + 1)) (length p);
+    })
+
+-- the same, where the record is handed back
+abbrev pub handed : Left3 Numbered WriterSendBuffer (List ℕ) (List ℕ) → Left2 Admitted (List ℕ) (List ℕ)
+handed o = record { result = record { numbered = o .result; flow = o .first }; first = o .second; second = o .third }
+
+-- FETCHING: "takes any number; a retained one shows exactly its bytes"
+
+abbrev pub fetchRows : WriterSendBuffer → ℕ → List ℕ → SequenceNumber → Rows
+fetchRows f room lens n = fetched (isCoherentStore f room lens) (retained (rankOf n) (view f))
+
+-- where it lies
+abbrev pub locateOf : WriterSendBuffer → ℕ → List ℕ → SequenceNumber → Located
+locateOf f room lens n =
+    unless (fetchRows f room lens n)
+    (λ no. record { answer = no; start = 0; length = 0 })
+    (record { answer = done; start = startOf (view f) (rankOf n); length = getD lens (slotOf (view f) (rankOf n)) 0 })
+
+-- the part of the store: an empty one, where it is not retained
+abbrev pub fetchOf : WriterSendBuffer → List ℕ → List ℕ → SequenceNumber → List ℕ
+fetchOf f s lens n = unless (fetchRows f (length s) lens n) (λ _. []) (bytesOf (view f) s lens (rankOf n))
+
+-- WHAT THE PRIVATE FUNCTIONS ASK
+
+-- a run of numbers whose slots are looked at
+pub record Run (lens : List ℕ) (from count : ℕ) : Type 0 where
+  pub some : 0 < length lens
+  pub small : from + count < 18446744073709551615
+
+-- a slot of the store, and bytes that fit it
+pub record Slot (s lens p : List ℕ) (slot bytes : ℕ) : Type 0 where
+  pub inside : slot < length lens
+  pub within : slot * bytes + bytes ≤ length s
+  pub fits : length p ≤ bytes

@@ -1,0 +1,171 @@
+// The retained samples: a lent store of `slots` times `slot_bytes` bytes, and a lent room of `slots` lengths.
+ghost use mathlib.Core.Path.{_≡_};
+ghost use Prim.Native.Nat.{_*_};
+ghost use lib.ListN.{length, set};
+ghost use Rattle.numbers.specs.Refusals.{answerOf};
+ghost use Rattle.numbers.specs.Promise.{Gives2};
+ghost use Rattle.writer_send_buffer.specs.Buffer.{fetched};
+ghost use Rattle.writer_send_buffer.specs.Samples.{Run, Slot, over, lengthsFit, isCoherentStore, admitOf, handed, locateOf, fetchOf};
+use crate::flow::Numbered;
+use crate::flow::WriterSendBuffer;
+use crate::limits::above;
+use numbers::Answer;
+use numbers::Rows;
+use numbers::SequenceNumber;
+
+// What a write is answered, with the record as it then is.
+#[repr(C)]
+pub struct Admitted {
+    pub numbered: Numbered,
+    pub flow: WriterSendBuffer,
+}
+
+// Where a sample lies in the store.
+#[repr(C)]
+pub struct Located {
+    pub answer: Answer,
+    pub start: usize,
+    pub length: usize,
+}
+
+// dst becomes src.
+fn copy_in(dst: &mut [u8], src: &[u8])
+    requires { ⌜ length (now dst) ≡ length (now src) ⌝ }
+    ensures { λ r. ⌜ now (dst .exit) ≡ now (src .entry) ⌝ }
+{
+    let mut i = 0;
+    while i < dst.len() {
+        dst[i] = src[i];
+        i += 1;
+    }
+}
+
+// Whether the lengths of `count` samples, the first of them in the slot of `from`, are at most `most`.
+fn lengths_fit(lens: &[u64], from: u64, count: u64, most: u64) -> bool
+    requires { ⌜ Run (now lens) from count ⌝ }
+    ensures { λ r. ⌜ r ≡ lengthsFit (now (lens .entry)) (length (now (lens .entry))) most from count ⌝ }
+{
+    let mut fit = true;
+    let mut slot = (from % (lens.len() as u64)) as usize;
+    let mut i: u64 = 0;
+    while i < count {
+        fit = fit & (lens[slot] <= most);
+        slot += 1;
+        if slot == lens.len() {
+            slot = 0;
+        }
+        i += 1;
+    }
+    fit
+}
+
+// The payload is copied into a slot: the only copy.
+fn put_in(store: &mut [u8], lens: &mut [u64], payload: &[u8], slot: usize, bytes: usize)
+    requires { ⌜ Slot (now store) (now lens) (now payload) slot bytes ⌝ }
+    ensures { λ r. ⌜ (now (store .exit) ≡ over (now (store .entry)) (slot * bytes) (now (payload .entry))) × (now (lens .exit) ≡ set (now (lens .entry)) slot (length (now (payload .entry)))) ⌝ }
+{
+    let a = slot * bytes;
+    let e = a + payload.len();
+    copy_in(&mut store[a..e], payload);
+    lens[slot] = payload.len() as u64;
+}
+
+// The answer of a fetch.
+fn fetch_answer(coherent: bool, there: bool) -> Answer
+    ensures { λ r. ⌜ r ≡ answerOf (fetched coherent there) ⌝ }
+{
+    let mut rows = Rows::none();
+    rows.incoherent = !coherent;
+    rows.nothing = !there;
+    Answer::of(rows)
+}
+
+impl WriterSendBuffer {
+    // Whether the record, a store of `room` bytes and the lengths are coherent.
+    pub fn is_coherent_store(self, room: usize, lens: &[u64]) -> bool
+        ensures { λ r. ⌜ r ≡ isCoherentStore self room (now (lens .entry)) ⌝ }
+    {
+        let limits = self.limits;
+        let slots = limits.slots as usize;
+        let bytes = limits.slot_bytes as usize;
+        if !self.is_coherent() {
+            return false;
+        }
+        if lens.len() != slots {
+            return false;
+        }
+        if room != slots * bytes {
+            return false;
+        }
+        let last = self.last.rank();
+        let first = self.first.rank();
+        lengths_fit(lens, first - 1, above(last + 1, first), limits.slot_bytes)
+    }
+
+    // A write: the payload is copied into its slot, and the number is the next; or it is refused, and nothing changes.
+    pub fn with_sample(
+        self,
+        store: &mut [u8],
+        lens: &mut [u64],
+        payload: &[u8],
+        opted: bool,
+    ) -> Admitted
+        ensures { λ r. ⌜ Gives2 r (now (store .exit)) (now (lens .exit)) (handed (admitOf self (now (store .entry)) (now (lens .entry)) (now (payload .entry)) opted)) ⌝ }
+    {
+        let coherent = self.is_coherent_store(store.len(), lens);
+        let answer = self.admission(coherent, payload.len(), opted);
+        if answer.number != 0 {
+            let number = SequenceNumber::from_rank(0);
+            return Admitted {
+                numbered: Numbered { answer, number },
+                flow: self,
+            };
+        }
+        let limits = self.limits;
+        let last = self.last.rank();
+        let slot = (last % limits.slots) as usize;
+        put_in(store, lens, payload, slot, limits.slot_bytes as usize);
+        let flow = self.after(opted);
+        let number = flow.last;
+        Admitted {
+            numbered: Numbered { answer, number },
+            flow,
+        }
+    }
+
+    // Where the bytes of a sample lie in a store of `room` bytes.
+    pub fn locate(self, room: usize, lens: &[u64], number: SequenceNumber) -> Located
+        ensures { λ r. ⌜ r ≡ locateOf self room (now (lens .entry)) number ⌝ }
+    {
+        let n = number.rank();
+        let last = self.last.rank();
+        let first = self.first.rank();
+        let coherent = self.is_coherent_store(room, lens);
+        let answer = fetch_answer(coherent, (first <= n) & (n <= last));
+        if answer.number != 0 {
+            return Located {
+                answer,
+                start: 0,
+                length: 0,
+            };
+        }
+        let limits = self.limits;
+        let slot = ((n - 1) % limits.slots) as usize;
+        let bytes = limits.slot_bytes as usize;
+        Located {
+            answer,
+            start: slot * bytes,
+            length: lens[slot] as usize,
+        }
+    }
+
+    // The bytes of a sample, as a part of the lent store; none where it is not retained.
+    pub fn get_by_sn<'a>(self, store: &'a [u8], lens: &[u64], number: SequenceNumber) -> &'a [u8]
+        ensures { λ r. ⌜ now r ≡ fetchOf self (now (store .entry)) (now (lens .entry)) number ⌝ }
+    {
+        let at = self.locate(store.len(), lens, number);
+        let a = at.start;
+        let e = a + at.length;
+        &store[a..e]
+    }
+}
