@@ -1,12 +1,12 @@
 -- The frontier after a match and after a departure, whatever the order of the slots. Assumes nothing.
-use Prim.Native.Nat.{ℕ, zero, suc, _≤_, min, max}
+use Prim.Native.Nat.{ℕ, zero, suc, max}
 use mathlib.Core.Path.{_≡_, refl, sym, ap, _∙_}
 use mathlib.Core.Bool.{Bool, true, false, not, cond, _&&_, _||_, false≢true}
 use mathlib.Core.List.{List, [], _∷_}
 use native.Mathlib.Omega.{arith}
 use lib.Dec.{eqb}
 use lib.ListN.{set}
-use borrow.Author.Tests.{eqb-true, eq-eqb, ne-eqb}
+use borrow.Author.Tests.{eqb-true, ne-eqb}
 use Rattle.reader_list.specs.Readers.{Head, free, meet, frontier, placeOf, isThere, matched, departed, slotFits, slotsFit, different}
 use Rattle.reader_list.proofs.Ids.{and-left, and-right}
 use Rattle.reader_list.proofs.Gather.{meet-assoc}

@@ -8,8 +8,6 @@ use native.Mathlib.Omega.{arith}
 use lib.Dec.{eqb}
 use lib.ListN.{length, take, drop, getD, drop-of-length-le, length-drop}
 use lib.Seq.{drop-cons, take-all}
-use Rattle.numbers.specs.Refusals.{done as finished}
-use Rattle.numbers.specs.declared.answer.Answer.{Answer}
 use Rattle.reader_list.specs.Readers.{meet}
 use Rattle.reader_list.specs.Walk.{isIn, distinct}
 
@@ -72,6 +70,3 @@ pub meet-is : (a b : ℕ) → (a ≡ 0 → ⊥) → 1 ≤ b → meet a b ≡ min
 meet-is zero b n h = absurd (n refl)
 meet-is (suc a) zero n h = absurd (omega arith)
 meet-is (suc a) (suc b) n h = refl
-
-pub is-0 : (a : Answer) → a .number ≡ 0 → a ≡ finished
-is-0 a e = λ i. record { number = e i }

@@ -5,7 +5,7 @@ use mathlib.Core.List.{List, [], _∷_}
 use lib.Dec.{leb, eqb}
 use lib.ListN.{getD, set}
 use Rattle.numbers.specs.Number.{rankOf, negative, numberAt}
-use Rattle.numbers.specs.Refusals.{unless, done}
+use Rattle.numbers.specs.Refusals.{row, rowsOf, unless, done}
 use Rattle.numbers.specs.Promise.{Left1}
 use Rattle.numbers.specs.declared.answer.Answer.{Answer}
 use Rattle.numbers.specs.declared.answer.Rows.{Rows}
@@ -41,23 +41,7 @@ frontierAt a = record { present = not (eqb a 0); acked = numberAt a }
 -- THE ROWS
 
 abbrev pub listed : Bool → Bool → Bool → Bool → Bool → Rows
-listed limit coherent range reader full =
-    record {
-      limit = limit;
-      incoherent = not coherent;
-      bits = false;
-      range = range;
-      reader = reader;
-      ahead = false;
-      payload = false;
-      «used_up» = false;
-      «would_block» = false;
-      «store_full» = false;
-      «readers_full» = full;
-      «gaps_full» = false;
-      «frags_full» = false;
-      nothing = false;
-    }
+listed limit coherent range reader full = rowsOf (row 13 limit ∷ row 1 (not coherent) ∷ row 2 range ∷ row 11 reader ∷ row 8 full ∷ [])
 
 -- "11: reader id 0, unknown, or already there"
 abbrev pub unknown : ℕ → List Head → Bool

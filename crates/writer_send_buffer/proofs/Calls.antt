@@ -13,9 +13,6 @@ use Rattle.writer_send_buffer.specs.declared.flow.Told.{Told}
 use Rattle.writer_send_buffer.specs.Flow.{Flow, stored, wakes}
 use Rattle.writer_send_buffer.specs.Buffer.{isCoherent, ranged, form}
 
-pub is-0 : (a : Answer) → a .number ≡ 0 → a ≡ done
-is-0 a e = λ i. record { number = e i }
-
 module _ (f : WriterSendBuffer) (coh rng out : Bool) (hc : coh ≡ isCoherent f) (hr : rng ≡ out) (a : Answer) (h : a ≡ answerOf (ranged coh rng)) where
   asked : a ≡ answerOf (ranged (isCoherent f) out)
   asked = h ∙ (λ i. answerOf (ranged (hc i) (hr i)))

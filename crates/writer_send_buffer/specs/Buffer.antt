@@ -1,8 +1,9 @@
 -- The flow record as it is declared, and what each call on it leaves. Assumes nothing.
-use mathlib.Core.Bool.{Bool, true, false, not, _&&_}
+use mathlib.Core.Bool.{Bool, false, not, _&&_}
+use mathlib.Core.List.{[], _∷_}
 use lib.Dec.{ltb}
 use Rattle.numbers.specs.Number.{rankOf, negative, numberAt}
-use Rattle.numbers.specs.Refusals.{unless, done}
+use Rattle.numbers.specs.Refusals.{row, rowsOf, unless, done}
 use Rattle.numbers.specs.Promise.{Left1}
 use Rattle.numbers.specs.declared.answer.Answer.{Answer}
 use Rattle.numbers.specs.declared.answer.Rows.{Rows}
@@ -31,34 +32,14 @@ isCoherent f = not (negative (f .last)) && (not (negative (f .sent)) && fits (vi
 
 -- THE ROWS
 
--- the rows that a call other than a write can meet: 13, 1, 2 and 14
-abbrev pub rowsOf : Bool → Bool → Bool → Bool → Rows
-rowsOf limit coherent range nothing =
-    record {
-      limit = limit;
-      incoherent = not coherent;
-      bits = false;
-      range = range;
-      reader = false;
-      ahead = false;
-      payload = false;
-      «used_up» = false;
-      «would_block» = false;
-      «store_full» = false;
-      «readers_full» = false;
-      «gaps_full» = false;
-      «frags_full» = false;
-      nothing = nothing;
-    }
-
 abbrev pub limited : Bool → Rows
-limited limit = rowsOf limit true false false
+limited limit = rowsOf (row 13 limit ∷ [])
 
 abbrev pub ranged : Bool → Bool → Rows
-ranged coherent range = rowsOf false coherent range false
+ranged coherent range = rowsOf (row 1 (not coherent) ∷ row 2 range ∷ [])
 
 abbrev pub fetched : Bool → Bool → Rows
-fetched coherent there = rowsOf false coherent false (not there)
+fetched coherent there = rowsOf (row 1 (not coherent) ∷ row 14 (not there) ∷ [])
 
 -- A NEW WRITER
 

@@ -5,6 +5,7 @@ use mathlib.Core.Bool.{Bool, true, false, not, cond, _&&_, _||_}
 use mathlib.Core.List.{List, [], _∷_}
 use lib.Dec.{ltb, leb, eqb}
 use Rattle.numbers.specs.Number.{topNumber}
+use Rattle.numbers.specs.Refusals.{row, rowsOf}
 use Rattle.numbers.specs.declared.answer.Rows.{Rows}
 use Rattle.writer_send_buffer.specs.declared.limits.Kind.{Kind}
 use Rattle.writer_send_buffer.specs.declared.limits.Limits.{Limits}
@@ -100,22 +101,13 @@ admitted f opted = record { last = f .last + 1; first = trimmed f opted; sent = 
 -- what refuses a write of `len` bytes: the record and the lent store aren't coherent, 4, 5, 6, 7
 abbrev pub admitRows : Bool → ℕ → Flow → Bool → Rows
 admitRows coherent len f opted =
-    record {
-      limit = false;
-      incoherent = not coherent;
-      bits = false;
-      range = false;
-      reader = false;
-      ahead = false;
-      payload = ltb (f .limits .«slot_bytes») len;
-      «used_up» = usedUp f;
-      «would_block» = not (room f opted);
-      «store_full» = full f opted;
-      «readers_full» = false;
-      «gaps_full» = false;
-      «frags_full» = false;
-      nothing = false;
-    }
+    rowsOf
+    (row 1 (not coherent)
+    ∷ row 4 (ltb (f .limits .«slot_bytes») len)
+    ∷ row 5 (usedUp f)
+    ∷ row 6 (not (room f opted))
+    ∷ row 7 (full f opted)
+    ∷ [])
 
 -- FRONTIERS. A frontier is a number from 1 on; 0 stands for an absent one.
 

@@ -3,10 +3,9 @@ use mathlib.Core.Path.{_≡_, _∙_}
 use mathlib.Core.Bool.{false}
 use Rattle.numbers.specs.Number.{negative}
 use Rattle.numbers.specs.Refusals.{answerOf, done}
-use Rattle.numbers.proofs.Refused.{is-refused, is-done}
+use Rattle.numbers.proofs.Refused.{is-refused, is-done, done-is}
 use Rattle.reader_list.specs.Slots.{listed}
 use Rattle.reader_list.specs.Walk.{isWhole, notKnown, nowhere}
-use Rattle.reader_list.proofs.Ids.{is-0}
 use Rattle.reader_list.specs.declared.ends.Put.{Put}
 use borrow.Author.Needs.{needs}
 use Rattle.reader_list.proofs.ends.acked_end.Statement.{statement}
@@ -34,7 +33,7 @@ returns-2 : tie.Need-returns-2
 returns-2 c =
     let s = c .before .before .before .before .before .before .before .before .args .s in
     let q : c .before .before .before .list-answer .result ≡ answerOf (listed false (isWhole s) (negative (s .ask .acked)) (notKnown s) false) = c .before .before .before .list-answer .ensures ∙ (λ i. answerOf (listed false (c .before .before .before .before .before .before .is-whole .ensures i) (c .before .before .before .before .is-negative .ensures i) (notKnown s) false)) in
-    rw (is-0 (c .before .before .before .list-answer .result) (c .before .if1 .left)) (is-done {A = Put} (listed false (isWhole s) (negative (s .ask .acked)) (notKnown s) false) (c .before .before .before .list-answer .result) q (nowhere) (record { answer = done; at = s .at; head = record { id = s .ask .id; reliable = s .head .reliable; acked = s .ask .acked } }) (c .before .if1 .left))
+    rw (done-is (c .before .before .before .list-answer .result) (c .before .if1 .left)) (is-done {A = Put} (listed false (isWhole s) (negative (s .ask .acked)) (notKnown s) false) (c .before .before .before .list-answer .result) q (nowhere) (record { answer = done; at = s .at; head = record { id = s .ask .id; reliable = s .head .reliable; acked = s .ask .acked } }) (c .before .if1 .left))
 
 pub acked-end-spec : {M : Type 1} → statement M
 acked-end-spec =

@@ -2,10 +2,9 @@
 use mathlib.Core.Path.{_≡_, ap, _∙_}
 use mathlib.Core.Bool.{Bool, false}
 use Rattle.numbers.specs.Refusals.{answerOf, done}
-use Rattle.numbers.proofs.Refused.{is-refused, is-done}
+use Rattle.numbers.proofs.Refused.{is-refused, is-done, done-is}
 use Rattle.reader_list.specs.Slots.{listed, freeSlot}
 use Rattle.reader_list.specs.Walk.{isWhole, notKnown, nowhere}
-use Rattle.reader_list.proofs.Ids.{is-0}
 use Rattle.reader_list.specs.declared.ends.Put.{Put}
 use borrow.Author.Needs.{needs}
 use Rattle.reader_list.proofs.ends.depart_end.Statement.{statement}
@@ -33,7 +32,7 @@ returns-2 : tie.Need-returns-2
 returns-2 c =
     let s = c .before .before .before .before .before .before .args .s in
     let q : c .before .before .before .list-answer .result ≡ answerOf (listed false (isWhole s) false (notKnown s) false) = c .before .before .before .list-answer .ensures ∙ ap (λ (b : Bool). answerOf (listed false b false (notKnown s) false)) (c .before .before .before .before .is-whole .ensures) in
-    rw (is-0 (c .before .before .before .list-answer .result) (c .before .if1 .left), c .free-slot .ensures) (is-done {A = Put} (listed false (isWhole s) false (notKnown s) false) (c .before .before .before .list-answer .result) q (nowhere) (record { answer = done; at = s .at; head = freeSlot }) (c .before .if1 .left))
+    rw (done-is (c .before .before .before .list-answer .result) (c .before .if1 .left), c .free-slot .ensures) (is-done {A = Put} (listed false (isWhole s) false (notKnown s) false) (c .before .before .before .list-answer .result) q (nowhere) (record { answer = done; at = s .at; head = freeSlot }) (c .before .if1 .left))
 
 pub depart-end-spec : {M : Type 1} → statement M
 depart-end-spec =

@@ -4,10 +4,9 @@ use mathlib.Core.Bool.{Bool, false, not, _||_}
 use lib.Dec.{eqb}
 use Rattle.numbers.specs.Number.{numberAt}
 use Rattle.numbers.specs.Refusals.{answerOf, done}
-use Rattle.numbers.proofs.Refused.{is-refused, is-done}
+use Rattle.numbers.proofs.Refused.{is-refused, is-done, done-is}
 use Rattle.reader_list.specs.Slots.{listed, capAllowed}
 use Rattle.reader_list.specs.Walk.{isWhole, isFound, hasFree, nowhere}
-use Rattle.reader_list.proofs.Ids.{is-0}
 use Rattle.reader_list.specs.declared.ends.Put.{Put}
 use borrow.Author.Needs.{needs}
 use Rattle.reader_list.proofs.ends.match_end.Statement.{statement}
@@ -35,7 +34,7 @@ returns-2 : tie.Need-returns-2
 returns-2 c =
     let s = c .before .before .before .before .before .before .args .s in
     let q : c .before .before .before .list-answer .result ≡ answerOf (listed (not (capAllowed (s .ask .cap))) (isWhole s) false (eqb (s .ask .id) 0 || isFound s) (not (hasFree s))) = c .before .before .before .list-answer .ensures ∙ ap (λ (b : Bool). answerOf (listed (not (capAllowed (s .ask .cap))) b false (eqb (s .ask .id) 0 || isFound s) (not (hasFree s)))) (c .before .before .before .before .is-whole .ensures) in
-    rw (is-0 (c .before .before .before .list-answer .result) (c .before .if1 .left), c .from-rank .ensures) (is-done {A = Put} (listed (not (capAllowed (s .ask .cap))) (isWhole s) false (eqb (s .ask .id) 0 || isFound s) (not (hasFree s))) (c .before .before .before .list-answer .result) q (nowhere) (record { answer = done; at = s .free; head = record { id = s .ask .id; reliable = s .ask .reliable; acked = numberAt 0 } }) (c .before .if1 .left))
+    rw (done-is (c .before .before .before .list-answer .result) (c .before .if1 .left), c .from-rank .ensures) (is-done {A = Put} (listed (not (capAllowed (s .ask .cap))) (isWhole s) false (eqb (s .ask .id) 0 || isFound s) (not (hasFree s))) (c .before .before .before .list-answer .result) q (nowhere) (record { answer = done; at = s .free; head = record { id = s .ask .id; reliable = s .ask .reliable; acked = numberAt 0 } }) (c .before .if1 .left))
 
 pub match-end-spec : {M : Type 1} → statement M
 match-end-spec =

@@ -2,8 +2,9 @@
 use mathlib.Core.Path.{refl}
 use mathlib.Core.Bool.{false}
 use Rattle.numbers.specs.Refusals.{done}
+use Rattle.numbers.proofs.Refused.{done-is}
 use Rattle.writer_send_buffer.specs.Buffer.{noNumber}
-use Rattle.writer_send_buffer.proofs.Calls.{is-0, refused, finished}
+use Rattle.writer_send_buffer.proofs.Calls.{refused, finished}
 use borrow.Author.Needs.{needs}
 use Rattle.writer_send_buffer.proofs.flow.WriterSendBuffer.first_change_sequence_number.Statement.{
   statement,
@@ -23,7 +24,7 @@ returns : tie.Need-returns
 returns c = rw (c .from-rank .ensures) (refused (c .before .before .before .before .before .args .self) (c .before .before .before .before .is-coherent .result) (false) (false) (c .before .before .before .before .is-coherent .ensures) (refl) (c .before .before .before .range-answer .result) (c .before .before .before .range-answer .ensures) (noNumber) (record { answer = done; number = c .before .before .before .before .before .args .self .first }) (c .before .if1 .taken))
 
 returns-2 : tie.Need-returns-2
-returns-2 c = rw (is-0 (c .before .before .before .range-answer .result) (c .before .if1 .left)) (finished (c .before .before .before .before .before .args .self) (c .before .before .before .before .is-coherent .result) (false) (false) (c .before .before .before .before .is-coherent .ensures) (refl) (c .before .before .before .range-answer .result) (c .before .before .before .range-answer .ensures) (noNumber) (record { answer = done; number = c .before .before .before .before .before .args .self .first }) (c .before .if1 .left))
+returns-2 c = rw (done-is (c .before .before .before .range-answer .result) (c .before .if1 .left)) (finished (c .before .before .before .before .before .args .self) (c .before .before .before .before .is-coherent .result) (false) (false) (c .before .before .before .before .is-coherent .ensures) (refl) (c .before .before .before .range-answer .result) (c .before .before .before .range-answer .ensures) (noNumber) (record { answer = done; number = c .before .before .before .before .before .args .self .first }) (c .before .if1 .left))
 
 pub first-change-sequence-number-spec : {M : Type 1} → statement M
 first-change-sequence-number-spec =

@@ -7,11 +7,10 @@ use lib.Dec.{leb}
 use lib.ListN.{getD}
 use Rattle.numbers.specs.Number.{rankOf}
 use Rattle.numbers.specs.Refusals.{answerOf, done}
-use Rattle.numbers.proofs.Refused.{clear, is-refused, is-done}
+use Rattle.numbers.proofs.Refused.{clear, is-refused, is-done, done-is}
 use Rattle.writer_send_buffer.specs.declared.samples.Located.{Located}
 use Rattle.writer_send_buffer.specs.Buffer.{view, fetched}
 use Rattle.writer_send_buffer.specs.Samples.{fetchRows, startOf, slotOf}
-use Rattle.writer_send_buffer.proofs.Calls.{is-0}
 use Rattle.writer_send_buffer.proofs.Lists.{area, slot-in}
 use Rattle.writer_send_buffer.proofs.Sound.{fetches-is, slot-below}
 use borrow.Author.Needs.{needs}
@@ -81,7 +80,7 @@ returns-2 : tie.Need-returns-2
 returns-2 c =
     let f = c .before .before .before .before .before .before .before .before .before .before .before .args .self in
     let q : c .before .before .before .before .before .fetch-answer .result ≡ answerOf (fetchRows f (c .before .before .before .before .before .before .before .before .before .before .before .args .room) (c .before .before .before .before .before .before .before .before .before .before .before .args .lens .now) (c .before .before .before .before .before .before .before .before .before .before .before .args .number)) = c .before .before .before .before .before .fetch-answer .ensures ∙ (λ i. answerOf (fetched (c .before .before .before .before .before .before .is-coherent-store .ensures i) (leb (c .before .before .before .before .before .before .before .rank3 .ensures .is i) (c .before .before .before .before .before .before .before .before .before .rank .ensures .is i) && leb (c .before .before .before .before .before .before .before .before .before .rank .ensures .is i) (c .before .before .before .before .before .before .before .before .rank2 .ensures .is i)))) in
-    rw (is-0 (c .before .before .before .before .before .fetch-answer .result) (c .before .before .before .if1 .left), c .before .before .before .before .before .before .before .before .before .rank .ensures .is) (is-done {A = Located} (fetchRows f (c .before .before .before .before .before .before .before .before .before .before .before .args .room) (c .before .before .before .before .before .before .before .before .before .before .before .args .lens .now) (c .before .before .before .before .before .before .before .before .before .before .before .args .number)) (c .before .before .before .before .before .fetch-answer .result) q (λ no. record { answer = no; start = 0; length = 0 }) (record { answer = done; start = startOf (view f) (rankOf (c .before .before .before .before .before .before .before .before .before .before .before .args .number)); length = getD (c .before .before .before .before .before .before .before .before .before .before .before .args .lens .now) (slotOf (view f) (rankOf (c .before .before .before .before .before .before .before .before .before .before .before .args .number))) 0 }) (c .before .before .before .if1 .left))
+    rw (done-is (c .before .before .before .before .before .fetch-answer .result) (c .before .before .before .if1 .left), c .before .before .before .before .before .before .before .before .before .rank .ensures .is) (is-done {A = Located} (fetchRows f (c .before .before .before .before .before .before .before .before .before .before .before .args .room) (c .before .before .before .before .before .before .before .before .before .before .before .args .lens .now) (c .before .before .before .before .before .before .before .before .before .before .before .args .number)) (c .before .before .before .before .before .fetch-answer .result) q (λ no. record { answer = no; start = 0; length = 0 }) (record { answer = done; start = startOf (view f) (rankOf (c .before .before .before .before .before .before .before .before .before .before .before .args .number)); length = getD (c .before .before .before .before .before .before .before .before .before .before .before .args .lens .now) (slotOf (view f) (rankOf (c .before .before .before .before .before .before .before .before .before .before .before .args .number))) 0 }) (c .before .before .before .if1 .left))
 
 pub locate-spec : {M : Type 1} → statement M
 locate-spec =

@@ -2,12 +2,11 @@
 use mathlib.Core.Path.{ap, _∙_}
 use mathlib.Core.Bool.{Bool, not}
 use Rattle.numbers.specs.Refusals.{answerOf, done}
-use Rattle.numbers.proofs.Refused.{is-refused, is-done}
+use Rattle.numbers.proofs.Refused.{is-refused, is-done, done-is}
 use Rattle.writer_send_buffer.specs.declared.limits.Limits.{Limits}
 use Rattle.writer_send_buffer.specs.declared.flow.Moved.{Moved}
 use Rattle.writer_send_buffer.specs.Flow.{allowed, counted, blank}
 use Rattle.writer_send_buffer.specs.Buffer.{limited, form, zeroed}
-use Rattle.writer_send_buffer.proofs.Calls.{is-0}
 use borrow.Author.Needs.{needs}
 use Rattle.writer_send_buffer.proofs.flow.WriterSendBuffer.new.Statement.{statement}
 use Rattle.writer_send_buffer.proofs.flow.WriterSendBuffer.new.Tie as tie
@@ -35,7 +34,7 @@ formed-requires-2 c κs = search needs
 returns-2 : tie.Need-returns-2
 returns-2 c =
     let q = c .before .before .before .limit-answer .ensures ∙ ap (λ (b : Bool). answerOf (limited (not b))) (c .before .before .before .before .are-allowed .ensures ∙ ap (λ (l : Limits). allowed l) (c .before .before .before .before .before .with-0-as-1 .ensures)) in
-    rw (is-0 (c .before .before .before .limit-answer .result) (c .before .if1 .left), c .formed2 .ensures, c .before .before .before .before .before .with-0-as-1 .ensures) (is-done {A = Moved} (limited (not (allowed (counted (c .before .before .before .before .before .before .args .limits))))) (c .before .before .before .limit-answer .result) q (λ no. record { answer = no; flow = zeroed }) (record { answer = done; flow = form (blank (c .before .before .before .before .before .before .args .kind) (counted (c .before .before .before .before .before .before .args .limits))) }) (c .before .if1 .left))
+    rw (done-is (c .before .before .before .limit-answer .result) (c .before .if1 .left), c .formed2 .ensures, c .before .before .before .before .before .with-0-as-1 .ensures) (is-done {A = Moved} (limited (not (allowed (counted (c .before .before .before .before .before .before .args .limits))))) (c .before .before .before .limit-answer .result) q (λ no. record { answer = no; flow = zeroed }) (record { answer = done; flow = form (blank (c .before .before .before .before .before .before .args .kind) (counted (c .before .before .before .before .before .before .args .limits))) }) (c .before .if1 .left))
 
 pub new-spec : {M : Type 1} → statement M
 new-spec =

@@ -2,10 +2,11 @@
 use Prim.Native.Nat.{_+_}
 use mathlib.Core.Path.{sym, ap, _∙_}
 use lib.Dec.{ltb}
+use Rattle.numbers.proofs.Refused.{done-is}
 use Rattle.writer_send_buffer.specs.Flow.{ahead}
 use Rattle.reader_list.specs.Slots.{frontierOf}
 use Rattle.writer_send_buffer.specs.Buffer.{view, toldNo, woken}
-use Rattle.writer_send_buffer.proofs.Calls.{is-0, refused, finished, storedIn, none-stored, one-stored}
+use Rattle.writer_send_buffer.proofs.Calls.{refused, finished, storedIn, none-stored, one-stored}
 use borrow.Author.Needs.{needs}
 use Rattle.writer_send_buffer.proofs.flow.WriterSendBuffer.with_acked_frontier.Statement.{
   statement,
@@ -43,13 +44,13 @@ formed-requires : tie.Need-formed-requires
 formed-requires c κs = search needs
 
 returns-2 : tie.Need-returns-2
-returns-2 c = rw (is-0 (c .before .before .before .before .before .before .before .before .range-answer .result) (c .before .before .before .before .before .before .if1 .left), c .formed .ensures, c .before .before .rank5 .ensures .is, c .before .before .before .rank4 .ensures .is, c .before .before .before .before .before .before .before .before .before .before .rank3 .ensures .is, c .before .before .before .before .before .before .before .before .before .before .before .rank2 .ensures .is) (ap woken (none-stored (frontierOf (c .before .before .before .before .before .before .before .before .before .before .before .before .before .args .frontier)) (view (c .before .before .before .before .before .before .before .before .before .before .before .before .before .args .self)) (sym (c .before .before .before .before .before .before .before .before .before .before .before .before .rank .ensures) ∙ c .before .if2 .taken) ∙ finished (c .before .before .before .before .before .before .before .before .before .before .before .before .before .args .self) (c .before .before .before .before .before .before .before .before .before .is-coherent .result) (ltb (c .before .before .before .before .before .before .before .before .before .before .before .rank2 .result + 1) (c .before .before .before .before .before .before .before .before .before .before .before .before .rank .result)) (ahead (frontierOf (c .before .before .before .before .before .before .before .before .before .before .before .before .before .args .frontier)) (view (c .before .before .before .before .before .before .before .before .before .before .before .before .before .args .self))) (c .before .before .before .before .before .before .before .before .before .is-coherent .ensures) (λ i. ltb (c .before .before .before .before .before .before .before .before .before .before .before .rank2 .ensures .is i + 1) (c .before .before .before .before .before .before .before .before .before .before .before .before .rank .ensures i)) (c .before .before .before .before .before .before .before .before .range-answer .result) (c .before .before .before .before .before .before .before .before .range-answer .ensures) (λ no. record { result = toldNo no; first = c .before .before .before .before .before .before .before .before .before .before .before .before .before .args .self }) (storedIn (frontierOf (c .before .before .before .before .before .before .before .before .before .before .before .before .before .args .frontier)) (view (c .before .before .before .before .before .before .before .before .before .before .before .before .before .args .self))) (c .before .before .before .before .before .before .if1 .left)))
+returns-2 c = rw (done-is (c .before .before .before .before .before .before .before .before .range-answer .result) (c .before .before .before .before .before .before .if1 .left), c .formed .ensures, c .before .before .rank5 .ensures .is, c .before .before .before .rank4 .ensures .is, c .before .before .before .before .before .before .before .before .before .before .rank3 .ensures .is, c .before .before .before .before .before .before .before .before .before .before .before .rank2 .ensures .is) (ap woken (none-stored (frontierOf (c .before .before .before .before .before .before .before .before .before .before .before .before .before .args .frontier)) (view (c .before .before .before .before .before .before .before .before .before .before .before .before .before .args .self)) (sym (c .before .before .before .before .before .before .before .before .before .before .before .before .rank .ensures) ∙ c .before .if2 .taken) ∙ finished (c .before .before .before .before .before .before .before .before .before .before .before .before .before .args .self) (c .before .before .before .before .before .before .before .before .before .is-coherent .result) (ltb (c .before .before .before .before .before .before .before .before .before .before .before .rank2 .result + 1) (c .before .before .before .before .before .before .before .before .before .before .before .before .rank .result)) (ahead (frontierOf (c .before .before .before .before .before .before .before .before .before .before .before .before .before .args .frontier)) (view (c .before .before .before .before .before .before .before .before .before .before .before .before .before .args .self))) (c .before .before .before .before .before .before .before .before .before .is-coherent .ensures) (λ i. ltb (c .before .before .before .before .before .before .before .before .before .before .before .rank2 .ensures .is i + 1) (c .before .before .before .before .before .before .before .before .before .before .before .before .rank .ensures i)) (c .before .before .before .before .before .before .before .before .range-answer .result) (c .before .before .before .before .before .before .before .before .range-answer .ensures) (λ no. record { result = toldNo no; first = c .before .before .before .before .before .before .before .before .before .before .before .before .before .args .self }) (storedIn (frontierOf (c .before .before .before .before .before .before .before .before .before .before .before .before .before .args .frontier)) (view (c .before .before .before .before .before .before .before .before .before .before .before .before .before .args .self))) (c .before .before .before .before .before .before .if1 .left)))
 
 formed-requires-2 : tie.Need-formed-requires-2
 formed-requires-2 c κs = search needs
 
 returns-3 : tie.Need-returns-3
-returns-3 c = rw (is-0 (c .before .before .before .before .before .before .before .before .range-answer .result) (c .before .before .before .before .before .before .if1 .left), c .formed2 .ensures, c .before .before .rank5 .ensures .is, c .before .before .before .rank4 .ensures .is, c .before .before .before .before .before .before .before .before .before .before .rank3 .ensures .is, c .before .before .before .before .before .before .before .before .before .before .before .rank2 .ensures .is, c .before .before .before .before .before .before .before .before .before .before .before .before .rank .ensures) (ap woken (one-stored (frontierOf (c .before .before .before .before .before .before .before .before .before .before .before .before .before .args .frontier)) (view (c .before .before .before .before .before .before .before .before .before .before .before .before .before .args .self)) (λ e. c .before .if2 .left (c .before .before .before .before .before .before .before .before .before .before .before .before .rank .ensures ∙ e)) ∙ finished (c .before .before .before .before .before .before .before .before .before .before .before .before .before .args .self) (c .before .before .before .before .before .before .before .before .before .is-coherent .result) (ltb (c .before .before .before .before .before .before .before .before .before .before .before .rank2 .result + 1) (c .before .before .before .before .before .before .before .before .before .before .before .before .rank .result)) (ahead (frontierOf (c .before .before .before .before .before .before .before .before .before .before .before .before .before .args .frontier)) (view (c .before .before .before .before .before .before .before .before .before .before .before .before .before .args .self))) (c .before .before .before .before .before .before .before .before .before .is-coherent .ensures) (λ i. ltb (c .before .before .before .before .before .before .before .before .before .before .before .rank2 .ensures .is i + 1) (c .before .before .before .before .before .before .before .before .before .before .before .before .rank .ensures i)) (c .before .before .before .before .before .before .before .before .range-answer .result) (c .before .before .before .before .before .before .before .before .range-answer .ensures) (λ no. record { result = toldNo no; first = c .before .before .before .before .before .before .before .before .before .before .before .before .before .args .self }) (storedIn (frontierOf (c .before .before .before .before .before .before .before .before .before .before .before .before .before .args .frontier)) (view (c .before .before .before .before .before .before .before .before .before .before .before .before .before .args .self))) (c .before .before .before .before .before .before .if1 .left)))
+returns-3 c = rw (done-is (c .before .before .before .before .before .before .before .before .range-answer .result) (c .before .before .before .before .before .before .if1 .left), c .formed2 .ensures, c .before .before .rank5 .ensures .is, c .before .before .before .rank4 .ensures .is, c .before .before .before .before .before .before .before .before .before .before .rank3 .ensures .is, c .before .before .before .before .before .before .before .before .before .before .before .rank2 .ensures .is, c .before .before .before .before .before .before .before .before .before .before .before .before .rank .ensures) (ap woken (one-stored (frontierOf (c .before .before .before .before .before .before .before .before .before .before .before .before .before .args .frontier)) (view (c .before .before .before .before .before .before .before .before .before .before .before .before .before .args .self)) (λ e. c .before .if2 .left (c .before .before .before .before .before .before .before .before .before .before .before .before .rank .ensures ∙ e)) ∙ finished (c .before .before .before .before .before .before .before .before .before .before .before .before .before .args .self) (c .before .before .before .before .before .before .before .before .before .is-coherent .result) (ltb (c .before .before .before .before .before .before .before .before .before .before .before .rank2 .result + 1) (c .before .before .before .before .before .before .before .before .before .before .before .before .rank .result)) (ahead (frontierOf (c .before .before .before .before .before .before .before .before .before .before .before .before .before .args .frontier)) (view (c .before .before .before .before .before .before .before .before .before .before .before .before .before .args .self))) (c .before .before .before .before .before .before .before .before .before .is-coherent .ensures) (λ i. ltb (c .before .before .before .before .before .before .before .before .before .before .before .rank2 .ensures .is i + 1) (c .before .before .before .before .before .before .before .before .before .before .before .before .rank .ensures i)) (c .before .before .before .before .before .before .before .before .range-answer .result) (c .before .before .before .before .before .before .before .before .range-answer .ensures) (λ no. record { result = toldNo no; first = c .before .before .before .before .before .before .before .before .before .before .before .before .before .args .self }) (storedIn (frontierOf (c .before .before .before .before .before .before .before .before .before .before .before .before .before .args .frontier)) (view (c .before .before .before .before .before .before .before .before .before .before .before .before .before .args .self))) (c .before .before .before .before .before .before .if1 .left)))
 
 pub with-acked-frontier-spec : {M : Type 1} → statement M
 with-acked-frontier-spec =

@@ -4,9 +4,10 @@ use mathlib.Core.Path.{ap}
 use lib.Dec.{ltb}
 use Rattle.numbers.specs.Number.{rankOf}
 use Rattle.numbers.specs.Refusals.{done}
+use Rattle.numbers.proofs.Refused.{done-is}
 use Rattle.writer_send_buffer.specs.Flow.{ahead, evicted}
 use Rattle.writer_send_buffer.specs.Buffer.{view, form, moved}
-use Rattle.writer_send_buffer.proofs.Calls.{is-0, refused, finished}
+use Rattle.writer_send_buffer.proofs.Calls.{refused, finished}
 use borrow.Author.Needs.{needs}
 use Rattle.writer_send_buffer.proofs.flow.WriterSendBuffer.with_changes_removed.Statement.{
   statement,
@@ -47,7 +48,7 @@ formed-requires : tie.Need-formed-requires
 formed-requires c κs = search needs
 
 returns-2 : tie.Need-returns-2
-returns-2 c = rw (is-0 (c .before .before .before .before .before .before .before .before .range-answer .result) (c .before .before .before .before .before .before .if1 .left), c .formed .ensures, c .before .larger .ensures, c .before .before .before .before .rank5 .ensures .is, c .before .before .before .before .before .rank4 .ensures .is, c .before .before .before .before .before .before .before .before .before .before .rank3 .ensures .is, c .before .before .before .before .before .before .before .before .before .before .before .rank2 .ensures .is, c .before .before .before .before .before .before .before .before .before .before .before .before .rank .ensures .is) (ap moved (finished (c .before .before .before .before .before .before .before .before .before .before .before .before .before .args .self) (c .before .before .before .before .before .before .before .before .before .is-coherent .result) (ltb (c .before .before .before .before .before .before .before .before .before .before .before .rank2 .result + 1) (c .before .before .before .before .before .before .before .before .before .before .before .before .rank .result)) (ahead (rankOf (c .before .before .before .before .before .before .before .before .before .before .before .before .before .args .before)) (view (c .before .before .before .before .before .before .before .before .before .before .before .before .before .args .self))) (c .before .before .before .before .before .before .before .before .before .is-coherent .ensures) (λ i. ltb (c .before .before .before .before .before .before .before .before .before .before .before .rank2 .ensures .is i + 1) (c .before .before .before .before .before .before .before .before .before .before .before .before .rank .ensures .is i)) (c .before .before .before .before .before .before .before .before .range-answer .result) (c .before .before .before .before .before .before .before .before .range-answer .ensures) (λ no. record { result = no; first = c .before .before .before .before .before .before .before .before .before .before .before .before .before .args .self }) (record { result = done; first = form (evicted (rankOf (c .before .before .before .before .before .before .before .before .before .before .before .before .before .args .before)) (view (c .before .before .before .before .before .before .before .before .before .before .before .before .before .args .self))) }) (c .before .before .before .before .before .before .if1 .left)))
+returns-2 c = rw (done-is (c .before .before .before .before .before .before .before .before .range-answer .result) (c .before .before .before .before .before .before .if1 .left), c .formed .ensures, c .before .larger .ensures, c .before .before .before .before .rank5 .ensures .is, c .before .before .before .before .before .rank4 .ensures .is, c .before .before .before .before .before .before .before .before .before .before .rank3 .ensures .is, c .before .before .before .before .before .before .before .before .before .before .before .rank2 .ensures .is, c .before .before .before .before .before .before .before .before .before .before .before .before .rank .ensures .is) (ap moved (finished (c .before .before .before .before .before .before .before .before .before .before .before .before .before .args .self) (c .before .before .before .before .before .before .before .before .before .is-coherent .result) (ltb (c .before .before .before .before .before .before .before .before .before .before .before .rank2 .result + 1) (c .before .before .before .before .before .before .before .before .before .before .before .before .rank .result)) (ahead (rankOf (c .before .before .before .before .before .before .before .before .before .before .before .before .before .args .before)) (view (c .before .before .before .before .before .before .before .before .before .before .before .before .before .args .self))) (c .before .before .before .before .before .before .before .before .before .is-coherent .ensures) (λ i. ltb (c .before .before .before .before .before .before .before .before .before .before .before .rank2 .ensures .is i + 1) (c .before .before .before .before .before .before .before .before .before .before .before .before .rank .ensures .is i)) (c .before .before .before .before .before .before .before .before .range-answer .result) (c .before .before .before .before .before .before .before .before .range-answer .ensures) (λ no. record { result = no; first = c .before .before .before .before .before .before .before .before .before .before .before .before .before .args .self }) (record { result = done; first = form (evicted (rankOf (c .before .before .before .before .before .before .before .before .before .before .before .before .before .args .before)) (view (c .before .before .before .before .before .before .before .before .before .before .before .before .before .args .self))) }) (c .before .before .before .before .before .before .if1 .left)))
 
 pub with-changes-removed-spec : {M : Type 1} → statement M
 with-changes-removed-spec =

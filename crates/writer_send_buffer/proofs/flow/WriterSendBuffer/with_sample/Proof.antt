@@ -9,13 +9,12 @@ use Rattle.numbers.specs.Number.{rankOf, numberAt}
 use Rattle.numbers.specs.Refusals.{answerOf, done}
 use Rattle.numbers.specs.Promise.{Left3}
 use Rattle.numbers.specs.declared.answer.Answer.{Answer}
-use Rattle.numbers.proofs.Refused.{clear, is-refused, is-done, gives2}
+use Rattle.numbers.proofs.Refused.{clear, is-refused, is-done, gives2, done-is}
 use Rattle.writer_send_buffer.specs.declared.flow.Numbered.{Numbered}
 use Rattle.writer_send_buffer.specs.declared.flow.WriterSendBuffer.{WriterSendBuffer}
 use Rattle.writer_send_buffer.specs.Flow.{admitRows, admitted}
 use Rattle.writer_send_buffer.specs.Buffer.{view, form, noNumber}
 use Rattle.writer_send_buffer.specs.Samples.{writeRows, admitOf, handed, over, startOf, slotOf}
-use Rattle.writer_send_buffer.proofs.Calls.{is-0}
 use Rattle.writer_send_buffer.proofs.Lists.{slot-in}
 use Rattle.writer_send_buffer.proofs.Sound.{writes-is, slot-below, next-slot}
 use borrow.Author.Needs.{needs}
@@ -94,7 +93,7 @@ returns-2 c =
     let no : Answer → Left3 Numbered WriterSendBuffer (List ℕ) (List ℕ) = λ no. record { result = noNumber no; first = f; second = s; third = l } in
     let ok : Left3 Numbered WriterSendBuffer (List ℕ) (List ℕ) = record { result = record { answer = done; number = numberAt (rankOf (f .last) + 1) }; first = form (admitted (view f) o); second = over s (startOf (view f) (rankOf (f .last) + 1)) p; third = set l (slotOf (view f) (rankOf (f .last) + 1)) (length p) } in
     gives2 _ _ _ (handed ok) (handed (admitOf f s l p o)) (ap handed (is-done (writeRows f (length s) l (length p) o) (c .before .before .before .before .before .before .before .before .before .before .before .before .before .before .admission .result) q no ok (c .before .before .before .before .before .before .before .before .before .before .before .before .if1 .left)))
-    (rw (is-0 (c .before .before .before .before .before .before .before .before .before .before .before .before .before .before .admission .result) (c .before .before .before .before .before .before .before .before .before .before .before .before .if1 .left), c .before .after .ensures))
+    (rw (done-is (c .before .before .before .before .before .before .before .before .before .before .before .before .before .before .admission .result) (c .before .before .before .before .before .before .before .before .before .before .before .before .if1 .left), c .before .after .ensures))
     (c .before .before .before .before .before .before .put-in .ensures .0 ∙ rw (next-slot (view f) (rankOf (f .last)), c .before .before .before .before .before .before .before .before .before .before .rank .ensures .is) refl)
     (c .before .before .before .before .before .before .put-in .ensures .1 ∙ rw (next-slot (view f) (rankOf (f .last)), c .before .before .before .before .before .before .before .before .before .before .rank .ensures .is) refl)
 
