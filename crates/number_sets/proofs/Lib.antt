@@ -8,5 +8,4 @@ pub mod Members
 pub mod List
 pub mod Written
 pub mod Meaning
-pub mod Examples
 pub mod Unique

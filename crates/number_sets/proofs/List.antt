@@ -13,7 +13,8 @@ use lib.ListN.{length, take, drop, getD, set, length-set, length-append, drop-of
 use lib.Seq.{drop-cons, set-at, append-snoc, take-nil, take-all, take-append-le}
 use Rattle.sets.specs.Sets.{those}
 use Rattle.sets.proofs.Those.{single, those-snoc, those-append, those-none, those-length}
-use Rattle.number_sets.specs.Bits.{bitAt, marked, filled}
+use Rattle.number_sets.specs.Bits.{bitAt, marked}
+use Rattle.rising.specs.Runs.{filled}
 use Rattle.number_sets.specs.Calls.{someBelow, someFrom}
 use Rattle.number_sets.proofs.Members.{NextIs}
 

@@ -2,9 +2,9 @@
 use Prim.Native.Nat.{ℕ, zero, suc, _+_, _-_, _*_, _/_, _%_, _^_, max, min, _<_}
 use mathlib.Core.Path.{_≡_}
 use mathlib.Core.Bool.{Bool, true, false, cond, _&&_, _||_}
-use mathlib.Core.List.{List, [], _∷_, _++_}
+use mathlib.Core.List.{List, [], _∷_}
 use lib.Dec.{eqb, leb, ltb}
-use lib.ListN.{length, getD, take, drop}
+use lib.ListN.{getD}
 use Rattle.sets.specs.Sets.{has, only, between, those, firstOr}
 
 -- a set of either kind, in natural numbers
@@ -55,7 +55,3 @@ inWindow b = between b (b + 255)
 abbrev pub span : ℕ → List ℕ → ℕ
 span b [] = 0
 span b (n ∷ ns) = max (suc n - b) (span b ns)
-
--- l in a room from its start, as far as it fits, and what stood there after it
-abbrev pub filled : List ℕ → List ℕ → List ℕ
-filled l room = take (length room) l ++ drop (length l) room

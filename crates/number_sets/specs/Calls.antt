@@ -25,7 +25,8 @@ use Rattle.number_sets.specs.declared.sequence_number_set.WrittenNumbers
 use Rattle.number_sets.specs.declared.sequence_number_set.Outside.{Outside}
 use Rattle.number_sets.specs.declared.fragment_number_set.FragmentNumberSet.{FragmentNumberSet}
 use Rattle.number_sets.specs.declared.fragment_number_set.WrittenFragments.{WrittenFragments}
-use Rattle.number_sets.specs.Bits.{NumberSet, members, wordsFor, inWindow, span, filled}
+use Rattle.number_sets.specs.Bits.{NumberSet, members, wordsFor, inWindow, span}
+use Rattle.rising.specs.Runs.{filled}
 
 -- a declared set in natural numbers
 abbrev pub sequenceSet : SequenceNumberSet → NumberSet

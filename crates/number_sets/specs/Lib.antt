@@ -2,4 +2,3 @@
 pub mod Bits
 pub mod Words
 pub mod Calls
-pub mod Examples

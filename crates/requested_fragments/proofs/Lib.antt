@@ -15,7 +15,6 @@ pub mod Form
 pub mod Drained
 pub mod Whole
 pub mod Plays
-pub mod Examples
 pub mod AskForm
 pub mod OneForm
 pub mod Unique

@@ -19,10 +19,10 @@ use Rattle.numbers.specs.Number.{rankOf, negative}
 use Rattle.numbers.specs.Promise.{Left1, Gives1}
 use Rattle.number_sets.specs.declared.sequence_number_set.SequenceNumberSet.{SequenceNumberSet}
 use Rattle.number_sets.specs.declared.sequence_number_set.Listed.{Listed}
-use Rattle.number_sets.specs.Bits.{members, inWindow, filled}
+use Rattle.number_sets.specs.Bits.{members, inWindow}
 use Rattle.number_sets.specs.Calls.{sequenceSet, cutSet, joinedSet, sequenceRows, setRows, listed, allListed}
 use Rattle.number_sets.proofs.Meaning.{members-cut, members-joined, members-rise, member-bit, members-256, span-window}
-use Rattle.rising.specs.Runs.{roomOf, inRoom, placeOf, opened, openedWithin}
+use Rattle.rising.specs.Runs.{roomOf, inRoom, placeOf, opened, openedWithin, filled}
 use Rattle.rising.proofs.Rooms.{drop-take}
 use Rattle.rising.proofs.Lists.{done as past}
 use Rattle.rising.proofs.Inserts.{place-le, place-mono}
