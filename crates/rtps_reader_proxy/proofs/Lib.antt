@@ -3,3 +3,5 @@ pub mod UnsentCalls
 pub mod GapCalls
 pub mod Joins
 pub mod AckCalls
+pub mod FragCalls
+pub mod Unique
