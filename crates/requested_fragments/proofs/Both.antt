@@ -126,11 +126,11 @@ asks-of (b ∷ bs) f h = go (empty (fragmentsOf (b .words))) refl h (asks-of bs 
         omega-false w = let o : _≡_ {A = ℕ} 0 1 = cc in omega arith
     go false e q r = ((frag-rises (b .words), (subst (λ (k : ℕ). Within (fragmentsOf (b .words)) k) (f .0) (frag-within (b .words)), e)), r q)
 
-view-samples : (t : List Block) → samplesOf (view t) ≡ samplesIn t
+pub view-samples : (t : List Block) → samplesOf (view t) ≡ samplesIn t
 view-samples [] = refl
 view-samples (b ∷ bs) = ap (λ (l : List ℕ). b .sample ∷ l) (view-samples bs)
 
-view-length : (t : List Block) → length (view t) ≡ length t
+pub view-length : (t : List Block) → length (view t) ≡ length t
 view-length [] = refl
 view-length (b ∷ bs) = ap suc (view-length bs)
 

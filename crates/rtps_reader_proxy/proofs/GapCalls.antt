@@ -56,7 +56,7 @@ gaps-are h gaps e =
       run = run-is (gapFloor h) (h .«gap_count») gaps (and-right (eqb (length gaps) 256) (runOk (gapFloor h) (h .«gap_count») gaps) f);
     }
 
-above : (end : ℕ) (l : List ℕ) → only (leb (end + 1)) l ≡ only (ltb end) l
+pub above : (end : ℕ) (l : List ℕ) → only (leb (end + 1)) l ≡ only (ltb end) l
 above end [] = refl
 above end (x ∷ xs) = go (ltb end x) refl (above end xs)
   where

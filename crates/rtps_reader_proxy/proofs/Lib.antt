@@ -4,3 +4,5 @@ pub mod GapCalls
 pub mod Joins
 pub mod AckCalls
 pub mod AckMeaning
+pub mod FragCalls
+pub mod Unique

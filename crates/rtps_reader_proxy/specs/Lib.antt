@@ -4,3 +4,4 @@ pub mod Record
 pub mod Unsent
 pub mod Gaps
 pub mod Acks
+pub mod Fragments

@@ -5,8 +5,8 @@ use mathlib.Core.Bool.{Bool, true, false, not, cond, _&&_, _||_}
 use mathlib.Core.List.{List, [], _∷_}
 use lib.Dec.{ltb, leb}
 use lib.ListN.{length}
-use Rattle.sets.specs.Sets.{has, insert, union, only, between, without, smallest, largest}
-use Rattle.requested_fragments.specs.Entries.{Entry, requested, sent}
+use Rattle.sets.specs.Sets.{has, empty, insert, union, only, between, without, smallest, largest}
+use Rattle.requested_fragments.specs.Entries.{Entry, samplesOf, requested, sent}
 
 pub record Reader : Type 0 where
   pub acked : ℕ
@@ -116,3 +116,17 @@ inPendingGap r n = (leb 1 n && leb (r .acked) n) && (leb n (r .prefix) || has (r
 -- those of it from c on that are single members, and the first of it from c on
 abbrev pub nextGap : ℕ → Reader → List ℕ
 nextGap c r = cond (leb (max c (max 1 (r .acked))) (r .prefix)) (max c (max 1 (r .acked)) ∷ []) (only (leb (max c (max 1 (r .acked)))) (r .gaps))
+
+-- REQUESTED FRAGMENTS
+
+-- a request takes a slot if it asks for something, of a sample of which nothing is requested yet
+abbrev pub needsSlot : ℕ → List ℕ → Reader → Bool
+needsSlot n ms r = not (empty ms) && not (has (samplesOf (r .frags)) n)
+
+-- "A request sets bits for one sample"; "An empty request makes no entry"
+abbrev pub fragsRequested : ℕ → List ℕ → Reader → Reader
+fragsRequested n ms r = withFrags (requested n ms (r .frags)) r
+
+-- "Marking one sent clears its bit and drops an entry left empty"
+abbrev pub fragSent : ℕ → ℕ → Reader → Reader
+fragSent n f r = withFrags (sent n f (r .frags)) r

@@ -1,0 +1,239 @@
+-- The calls on the requested fragments: refused, or the reader's step done in the rooms of samples and words. Assumes nothing.
+use Prim.Native.Nat.{ℕ, zero, suc, _+_, _-_, _*_, _≤_, _<_}
+use mathlib.Core.Path.{_≡_, refl, sym, ap, subst, _∙_}
+use mathlib.Core.Bool.{Bool, true, false, not, cond, _&&_, _||_, true≢false, false≢true}
+use mathlib.Core.Logic.{_⊎_, inl, inr}
+use mathlib.Core.List.{List, [], _∷_, _++_}
+use native.Mathlib.Omega.{arith}
+use native.Mathlib.Nat.{lt-irrefl}
+use lib.Dec.{leb, ltb, eqb}
+use lib.ListN.{length, take}
+use lib.Seq.{length-take-le}
+use borrow.Author.Tests.{not-false, not-true, eqb-false, leb-true, leb-false, eq-eqb, ne-eqb}
+use Rattle.sets.specs.Sets.{has, From, empty, insert, only}
+use Rattle.sets.proofs.Bools.{and-left, and-right, decide}
+use Rattle.numbers.specs.Number.{topNumber, topFragment, rankOf, isSample, numberAt, fragmentAt}
+use Rattle.numbers.specs.Refusals.{Row, row, rowsOf, answerOf, done, unless}
+use Rattle.numbers.specs.Cursor.{cursorAt, cursorPast}
+use Rattle.numbers.specs.Promise.{Left2, Gives2}
+use Rattle.numbers.specs.declared.answer.Answer.{Answer}
+use Rattle.numbers.specs.declared.answer.Rows.{Rows}
+use Rattle.numbers.specs.declared.cursor.Cursor.{Cursor}
+use Rattle.numbers.specs.declared.sequence_number.SequenceNumber.{SequenceNumber}
+use Rattle.numbers.proofs.Refused.{clear, done-is, is-refused, is-done, gives2}
+use Rattle.number_sets.specs.declared.fragment_number_set.FragmentNumberSet.{FragmentNumberSet}
+use Rattle.number_sets.specs.Bits.{members}
+use Rattle.number_sets.specs.Calls.{fragmentSet}
+use Rattle.rising.proofs.Meaning.{rises-are}
+use Rattle.rising.proofs.Changes.{insert-le, insert-same}
+use Rattle.requested_fragments.specs.declared.table.NextPiece.{NextPiece}
+use Rattle.requested_fragments.specs.Entries.{Entry, asked, requested, sent, samplesOf, nextSample, nextFragment, some}
+use Rattle.requested_fragments.specs.Table.{Block, coherentRooms, tableOf, view, entriesOf, samplesRoom, wordsRoom, askT, askable, fits, askedIn, markedIn, nextOf}
+use Rattle.requested_fragments.proofs.Blocks.{samples-of, samples-length}
+use Rattle.requested_fragments.proofs.Laws.{fit}
+use Rattle.requested_fragments.proofs.Coherent.{Coherent, is-coherent}
+use Rattle.requested_fragments.proofs.Meaning.{Within, ask-means}
+use Rattle.requested_fragments.proofs.Form.{coherent-fit, marked-again}
+use Rattle.requested_fragments.proofs.AskForm.{asked-again, askable-within, askable-rises, askable-all, asked-samples}
+use Rattle.requested_fragments.proofs.OneForm.{Words}
+use Rattle.requested_fragments.proofs.Both.{Valid, view-samples, view-length, entries-valid, rooms-are}
+use Rattle.rtps_reader_proxy.specs.declared.proxy.ReaderProxy.{ReaderProxy}
+use Rattle.rtps_reader_proxy.specs.declared.proxy.Changed.{Changed}
+use Rattle.rtps_reader_proxy.specs.declared.fragments.NextFragRequested.{NextFragRequested}
+use Rattle.rtps_reader_proxy.specs.declared.fragments.Told.{Told}
+use Rattle.rtps_reader_proxy.specs.Reader.{Reader, needsSlot, fragsRequested, fragSent}
+use Rattle.rtps_reader_proxy.specs.Record.{headOk}
+use Rattle.rtps_reader_proxy.specs.Fragments.{fragsOk, countFrags, entriesIn, byFrags, fragsBy, cannotAsk, noSlot, nextFragOf, repairOf}
+use Rattle.rtps_reader_proxy.proofs.GapCalls.{above}
+
+-- the samples of the entries are those in the room
+pub samples-are : (c : ℕ) (S W : List ℕ) → samplesOf (entriesOf c S W) ≡ take c S
+samples-are c S W = view-samples (tableOf c S W) ∙ samples-of (take c S) W
+
+-- nothing is asked for where there are no members
+pub none-asked : (l : List ℕ) → eqb (length l) 0 ≡ empty l
+none-asked [] = refl
+none-asked (x ∷ xs) = ne-eqb (suc (length xs)) 0 (λ z. lt-irrefl 0 (omega arith))
+
+-- "any member above 4,096"
+pub too-high : (l : List ℕ) → only (leb 4097) l ≡ only (ltb topFragment) l
+too-high l = above topFragment l
+
+-- what the code's test of a slot says
+pub slot-is : (n : ℕ) (set : FragmentNumberSet) (h : ReaderProxy) (samples words : List ℕ) (size : ℕ) (held : Bool)
+    → size ≡ length (members (fragmentSet set)) → held ≡ has (take (h .«frag_count») samples) n
+    → (leb 16 (h .«frag_count») && (not (eqb size 0) && not held)) ≡ noSlot n set h samples words
+slot-is n set h samples words size held es eh =
+    ap (λ (t : Bool). leb 16 (h .«frag_count») && (not t && not held)) (ap (λ (k : ℕ). eqb k 0) es ∙ none-asked (members (fragmentSet set)))
+    ∙ ap (λ (t : Bool). leb 16 (h .«frag_count») && (not (empty (members (fragmentSet set))) && not t)) (eh ∙ ap (λ (l : List ℕ). has l n) (sym (samples-are (h .«frag_count») samples words)))
+
+-- a request that is not refused with 2: its sample, its base and its members are as they must be
+pub record CanAsk (n : SequenceNumber) (set : FragmentNumberSet) : Type 0 where
+  pub low : 0 < rankOf n
+  pub high : rankOf n ≤ topNumber
+  pub all : askable set ≡ members (fragmentSet set)
+
+pub can-ask : (n : SequenceNumber) (set : FragmentNumberSet) → cannotAsk n set ≡ false → CanAsk n set
+can-ask n set e =
+    let a = neither (not (isSample n)) (eqb (set .base .0) 0 || not (empty (only (ltb topFragment) ms))) e in
+    let b = neither (eqb (set .base .0) 0) (not (empty (only (ltb topFragment) ms))) (a .1) in
+    let s : isSample n ≡ true = not-false (isSample n) (a .0) in
+    let l = leb-true 1 (rankOf n) (and-left (leb 1 (rankOf n)) (leb (rankOf n) topNumber) s) in
+    let base : 1 ≤ set .base .0 = above-0 (set .base .0) (eqb-false (set .base .0) 0 (b .0)) in
+    record {
+      low = omega arith;
+      high = leb-true (rankOf n) topNumber (and-right (leb 1 (rankOf n)) (leb (rankOf n) topNumber) s);
+      all = askable-all set base (ap empty (too-high ms) ∙ not-false (empty (only (ltb topFragment) ms)) (b .1));
+    }
+  where
+    ms : List ℕ
+    ms = members (fragmentSet set)
+
+    above-0 : (k : ℕ) → (k ≡ 0 → ⊥) → 1 ≤ k
+    above-0 k f = omega arith
+
+    neither : (x y : Bool) → (x || y) ≡ false → (x ≡ false) × (y ≡ false)
+    neither true y q = absurd (true≢false q)
+    neither false y q = (refl, q)
+
+-- a request that finds a slot leaves at most 16
+module _ (c : ℕ) (S W : List ℕ) (k : coherentRooms c S W ≡ true) where
+  abbrev held : List Entry
+  held = entriesOf c S W
+
+  known : Coherent c S W
+  known = is-coherent c S W k
+
+  fitting : fits c S W ≡ true
+  fitting = fit c S W (omega (arith, known .small, known .lengthS)) (omega (arith, known .small, known .lengthW))
+
+  count-is : length (samplesOf held) ≡ c
+  count-is = ap length (samples-are c S W) ∙ length-take-le c S (omega (arith, known .small, known .lengthS))
+
+  slot-left : (n : ℕ) (ms : List ℕ) → From 1 ms → Within ms 64 → (leb 16 c && not (has (samplesOf held) n)) ≡ false → length (askT n ms (tableOf c S W)) ≤ 16
+  slot-left n ms f w e = go (decide (leb 16 c))
+    where
+      long : length (askT n ms (tableOf c S W)) ≡ length (insert n (samplesOf held))
+      long =
+          sym (samples-length (askT n ms (tableOf c S W)))
+          ∙ ap length (sym (view-samples (askT n ms (tableOf c S W))) ∙ ap samplesOf (ask-means n ms f w (tableOf c S W) (coherent-fit c S W known .full)) ∙ asked-samples n ms held)
+
+      go : (leb 16 c ≡ true) ⊎ (leb 16 c ≡ false) → length (askT n ms (tableOf c S W)) ≤ 16
+      go (inr t) = omega (arith, long, insert-le n (samplesOf held), count-is, leb-false 16 c t)
+      go (inl t) =
+          let y : has (samplesOf held) n ≡ true = not-false (has (samplesOf held) n) (ap (λ (b : Bool). b && not (has (samplesOf held) n)) (sym t) ∙ e) in
+          let g = rises-are 0 (samplesOf held) (entries-valid c S W k .rises) in
+          omega (arith, long, ap length (insert-same n 1 (samplesOf held) (g .from) y), count-is, known .small)
+
+  -- what a request leaves passes the check, and holds what was held and asked for
+  pub request-again : (n : ℕ) (ms : List ℕ) → From 1 ms → Within ms 64 → 0 < n → n ≤ topNumber → (leb 16 c && (not (empty ms) && not (has (samplesOf held) n))) ≡ false
+      → (coherentRooms (askedIn n ms c S W .result) (askedIn n ms c S W .first) (askedIn n ms c S W .second) ≡ true)
+      × (entriesOf (askedIn n ms c S W .result) (askedIn n ms c S W .first) (askedIn n ms c S W .second) ≡ requested n ms held)
+  request-again n ms f w lo hi e = go (decide (empty ms))
+    where
+      go : (empty ms ≡ true) ⊎ (empty ms ≡ false)
+          → (coherentRooms (askedIn n ms c S W .result) (askedIn n ms c S W .first) (askedIn n ms c S W .second) ≡ true)
+          × (entriesOf (askedIn n ms c S W .result) (askedIn n ms c S W .first) (askedIn n ms c S W .second) ≡ requested n ms held)
+      go (inl t) = rw (fitting, t) (k, refl)
+      go (inr t) = asked-again c S W n ms k f w lo hi (slot-left n ms f w (ap (λ (b : Bool). leb 16 c && (not b && not (has (samplesOf held) n))) (sym t) ∙ e))
+
+module _ (h : ReaderProxy) (samples words : List ℕ) (rows : List Row) (a : Answer) (q : a ≡ answerOf (rowsOf (row 1 (not (fragsOk h samples words)) ∷ rows))) where
+  abbrev frag-rows : Rows
+  frag-rows = rowsOf (row 1 (not (fragsOk h samples words)) ∷ rows)
+
+  abbrev not-changed : Answer → Left2 Changed (List ℕ) (List ℕ)
+  not-changed x = record { result = record { answer = x; proxy = h }; first = samples; second = words }
+
+  abbrev is-changed : (Reader → Reader) → Left2 Changed (List ℕ) (List ℕ)
+  is-changed f =
+      record {
+        result = record { answer = done; proxy = countFrags (length (f (byFrags h samples words) .frags)) h };
+        first = samplesRoom (f (byFrags h samples words) .frags);
+        second = wordsRoom (f (byFrags h samples words) .frags);
+      }
+
+  pub frags-refused : (f : Reader → Reader) → (a .number ≡ 0 → ⊥) → Gives2 (record { answer = a; proxy = h }) samples words (fragsBy rows f h samples words)
+  frags-refused f n = gives2 (record { answer = a; proxy = h }) samples words (not-changed a) (fragsBy rows f h samples words) (is-refused frag-rows a q not-changed (is-changed f) n) refl refl refl
+
+  module _ (z : a .number ≡ 0) where
+    pub frags-known : coherentRooms (h .«frag_count») samples words ≡ true
+    frags-known = and-right (headOk h) (coherentRooms (h .«frag_count») samples words) (not-false (fragsOk h samples words) (clear frag-rows a q z .incoherent))
+
+    -- rooms that pass the check and hold what the reader's step f leaves
+    frags-done : (f : Reader → Reader) (n : ℕ) (S W : List ℕ) (p : ReaderProxy) → p ≡ countFrags n h → Words W → coherentRooms n S W ≡ true → entriesOf n S W ≡ f (byFrags h samples words) .frags
+        → Gives2 (record { answer = a; proxy = p }) S W (fragsBy rows f h samples words)
+    frags-done f n S W p e w k v =
+        let r = rooms-are n S W k w in
+        let c : n ≡ length (f (byFrags h samples words) .frags) = r .0 ∙ ap length v in
+        gives2 (record { answer = a; proxy = p }) S W (is-changed f) (fragsBy rows f h samples words) (is-done frag-rows a q not-changed (is-changed f) z)
+        (rw (done-is a z, e, c)) (r .1 ∙ ap samplesRoom v) (r .2 ∙ ap wordsRoom v)
+
+    pub sent-done : (m f n : ℕ) (S W : List ℕ) (p : ReaderProxy) → p ≡ countFrags n h → Words W → Gives2 n S W (markedIn m f (h .«frag_count») samples words)
+        → Gives2 (record { answer = a; proxy = p }) S W (fragsBy rows (fragSent m f) h samples words)
+    sent-done m f n S W p e w g =
+        let y = marked-again (h .«frag_count») samples words m f frags-known in
+        frags-done (fragSent m f) n S W p e w (rw (g .result, g .first, g .second) (y .0)) (rw (g .result, g .first, g .second) (y .1))
+
+    pub requested-done : (m : SequenceNumber) (set : FragmentNumberSet) (n : ℕ) (S W : List ℕ) (p : ReaderProxy) → cannotAsk m set ≡ false → noSlot (rankOf m) set h samples words ≡ false
+        → p ≡ countFrags n h → Words W → Gives2 n S W (askedIn (rankOf m) (askable set) (h .«frag_count») samples words)
+        → Gives2 (record { answer = a; proxy = p }) S W (fragsBy rows (fragsRequested (rankOf m) (members (fragmentSet set))) h samples words)
+    requested-done m set n S W p ca ns e w g =
+        let k = can-ask m set ca in
+        let y =
+        request-again (h .«frag_count») samples words frags-known (rankOf m) (askable set) (askable-rises set) (askable-within set) (k .low) (k .high)
+        (ap (λ (l : List ℕ). leb 16 (h .«frag_count») && needsSlot (rankOf m) l (byFrags h samples words)) (k .all) ∙ ns) in
+        frags-done (fragsRequested (rankOf m) (members (fragmentSet set))) n S W p e w (rw (g .result, g .first, g .second) (y .0))
+        (rw (g .result, g .first, g .second) (y .1) ∙ ap (λ (l : List ℕ). requested (rankOf m) l (entriesIn h samples words)) (k .all))
+
+-- the next fragment
+module _ (at : Cursor) (h : ReaderProxy) (samples words : List ℕ) (next : NextPiece) (a : Answer) (v : next ≡ nextOf (at .from) (entriesIn h samples words))
+    (q : a ≡ answerOf (rowsOf (row 1 (not (fragsOk h samples words)) ∷ row 14 (next .none) ∷ []))) where
+  abbrev next-rows : Rows
+  next-rows = rowsOf (row 1 (not (fragsOk h samples words)) ∷ row 14 (eqb (nextFragment (at .from) (entriesIn h samples words)) 0) ∷ [])
+
+  abbrev no-next : Answer → NextFragRequested
+  no-next x = record { answer = x; sample = numberAt 0; fragment = fragmentAt 0; cursor = cursorAt 0 }
+
+  abbrev this-next : NextFragRequested
+  this-next =
+      record {
+        answer = done;
+        sample = numberAt (nextSample (entriesIn h samples words));
+        fragment = fragmentAt (nextFragment (at .from) (entriesIn h samples words));
+        cursor = cursorPast (nextFragment (at .from) (entriesIn h samples words));
+      }
+
+  by-rows : a ≡ answerOf next-rows
+  by-rows = q ∙ ap (λ (x : NextPiece). answerOf (rowsOf (row 1 (not (fragsOk h samples words)) ∷ row 14 (x .none) ∷ []))) v
+
+  pub next-refused : (a .number ≡ 0 → ⊥) → no-next a ≡ nextFragOf at h samples words
+  next-refused z = is-refused next-rows a by-rows no-next this-next z
+
+  pub next-done : a .number ≡ 0
+      → _≡_ {A = NextFragRequested} (record { answer = a; sample = numberAt (next .sample); fragment = fragmentAt (next .fragment); cursor = cursorPast (next .fragment) }) (nextFragOf at h samples words)
+  next-done z =
+      let n = clear next-rows a by-rows z .nothing in
+      let s : next .sample ≡ nextSample (entriesIn h samples words) = ap (λ (x : NextPiece). x .sample) v ∙ ap (λ (t : Bool). cond t 0 (nextSample (entriesIn h samples words))) n in
+      let f : next .fragment ≡ nextFragment (at .from) (entriesIn h samples words) = ap (λ (x : NextPiece). x .fragment) v in
+      rw (done-is a z, s, f) (is-done next-rows a by-rows no-next this-next z)
+
+-- whether any is requested
+module _ (h : ReaderProxy) (samples words : List ℕ) (a : Answer) (q : a ≡ answerOf (rowsOf (row 1 (not (fragsOk h samples words)) ∷ []))) where
+  abbrev not-told : Answer → Told
+  not-told x = record { answer = x; yes = false }
+
+  abbrev is-told : Told
+  is-told = record { answer = done; yes = some (entriesIn h samples words) }
+
+  pub repair-refused : (a .number ≡ 0 → ⊥) → not-told a ≡ repairOf h samples words
+  repair-refused z = is-refused (rowsOf (row 1 (not (fragsOk h samples words)) ∷ [])) a q not-told is-told z
+
+  pub repair-done : a .number ≡ 0 → _≡_ {A = Told} (record { answer = a; yes = not (eqb (h .«frag_count») 0) }) (repairOf h samples words)
+  repair-done z =
+      let c = count-is (h .«frag_count») samples words (frags-known h samples words [] a q z) in
+      let y : not (eqb (h .«frag_count») 0) ≡ some (entriesIn h samples words) = ap (λ (n : ℕ). not (eqb n 0)) (sym c) ∙ some-is (entriesIn h samples words) in
+      rw (done-is a z, y) (is-done (rowsOf (row 1 (not (fragsOk h samples words)) ∷ [])) a q not-told is-told z)
+    where
+      some-is : (es : List Entry) → not (eqb (length (samplesOf es)) 0) ≡ some es
+      some-is [] = refl
+      some-is (e ∷ es) = ap not (ne-eqb (suc (length (samplesOf es))) 0 (λ z. lt-irrefl 0 (omega arith)))

@@ -1,0 +1,95 @@
+-- What the calls on the requested fragments answer and leave. They are lent the room of samples and the room of words. Assumes nothing.
+use Prim.Native.Nat.{ℕ}
+use mathlib.Core.Bool.{Bool, false, not, _&&_, _||_}
+use mathlib.Core.List.{List, [], _∷_}
+use lib.Dec.{leb, ltb, eqb}
+use lib.ListN.{length}
+use Rattle.sets.specs.Sets.{only, empty}
+use Rattle.numbers.specs.Number.{topFragment, rankOf, isSample, numberAt, fragmentAt}
+use Rattle.numbers.specs.Refusals.{Row, row, rowsOf, done, unless}
+use Rattle.numbers.specs.Cursor.{cursorAt, cursorPast}
+use Rattle.numbers.specs.Promise.{Left2}
+use Rattle.numbers.specs.declared.answer.Answer.{Answer}
+use Rattle.numbers.specs.declared.cursor.Cursor.{Cursor}
+use Rattle.numbers.specs.declared.sequence_number.SequenceNumber.{SequenceNumber}
+use Rattle.numbers.specs.declared.fragment_number.FragmentNumber.{FragmentNumber}
+use Rattle.number_sets.specs.declared.fragment_number_set.FragmentNumberSet.{FragmentNumberSet}
+use Rattle.number_sets.specs.Bits.{members}
+use Rattle.number_sets.specs.Calls.{fragmentSet}
+use Rattle.requested_fragments.specs.Entries.{Entry, nextSample, nextFragment, some}
+use Rattle.requested_fragments.specs.Table.{coherentRooms, entriesOf, samplesRoom, wordsRoom}
+use Rattle.rtps_reader_proxy.specs.declared.proxy.ReaderProxy.{ReaderProxy}
+use Rattle.rtps_reader_proxy.specs.declared.proxy.Changed.{Changed}
+use Rattle.rtps_reader_proxy.specs.declared.fragments.NextFragRequested.{NextFragRequested}
+use Rattle.rtps_reader_proxy.specs.declared.fragments.Told.{Told}
+use Rattle.rtps_reader_proxy.specs.Reader.{Reader, needsSlot, fragsRequested, fragSent}
+use Rattle.rtps_reader_proxy.specs.Record.{headOk, seen}
+
+-- "fragment samples rise strictly and are valid sample numbers .. each fragment entry holds a bit, and unused room is zero"
+abbrev pub fragsOk : ReaderProxy → List ℕ → List ℕ → Bool
+fragsOk h samples words = headOk h && coherentRooms (h .«frag_count») samples words
+
+-- the head, with the count of other entries
+abbrev pub countFrags : ℕ → ReaderProxy → ReaderProxy
+countFrags n h =
+    record {
+      «all_acked_before» = h .«all_acked_before»;
+      «unsent_cap» = h .«unsent_cap»;
+      «unsent_count» = h .«unsent_count»;
+      «gap_prefix_end» = h .«gap_prefix_end»;
+      «gap_count» = h .«gap_count»;
+      «frag_count» = n;
+    }
+
+-- the entries in the rooms; and the reader, as far as the head and these rooms show it
+abbrev pub entriesIn : ReaderProxy → List ℕ → List ℕ → List Entry
+entriesIn h samples words = entriesOf (h .«frag_count») samples words
+
+abbrev pub byFrags : ReaderProxy → List ℕ → List ℕ → Reader
+byFrags h samples words = seen h [] [] (entriesIn h samples words)
+
+-- a step f of the reader that changes its requested fragments, unless a row holds
+abbrev pub fragsBy : List Row → (Reader → Reader) → ReaderProxy → List ℕ → List ℕ → Left2 Changed (List ℕ) (List ℕ)
+fragsBy rows f h samples words =
+    unless (rowsOf (row 1 (not (fragsOk h samples words)) ∷ rows))
+    (λ a. record { result = record { answer = a; proxy = h }; first = samples; second = words })
+    (record {
+      result = record { answer = done; proxy = countFrags (length (f (byFrags h samples words) .frags)) h };
+      first = samplesRoom (f (byFrags h samples words) .frags);
+      second = wordsRoom (f (byFrags h samples words) .frags);
+    })
+
+-- "A sample number outside 1 to 2^63−2, base 0, or any member above 4,096 refuses the whole request with 2"
+abbrev pub cannotAsk : SequenceNumber → FragmentNumberSet → Bool
+cannotAsk n set = not (isSample n) || (eqb (set .base .0) 0 || not (empty (only (ltb topFragment) (members (fragmentSet set)))))
+
+-- "samples with requested fragments, per reader: 16"
+abbrev pub noSlot : ℕ → FragmentNumberSet → ReaderProxy → List ℕ → List ℕ → Bool
+noSlot n set h samples words = leb 16 (h .«frag_count») && needsSlot n (members (fragmentSet set)) (byFrags h samples words)
+
+abbrev pub fragsRequestedOf : SequenceNumber → FragmentNumberSet → ReaderProxy → List ℕ → List ℕ → Left2 Changed (List ℕ) (List ℕ)
+fragsRequestedOf n set h samples words =
+    fragsBy
+    (row 3 (ltb 256 (set .count)) ∷ row 2 (cannotAsk n set) ∷ row 10 (noSlot (rankOf n) set h samples words) ∷ [])
+    (fragsRequested (rankOf n) (members (fragmentSet set))) h samples words
+
+-- "not requested, whatever its number: nothing changes, answer 0"
+abbrev pub fragSentOf : SequenceNumber → FragmentNumber → ReaderProxy → List ℕ → List ℕ → Left2 Changed (List ℕ) (List ℕ)
+fragSentOf n f = fragsBy [] (fragSent (rankOf n) (f .0))
+
+-- "The next fragment is the smallest requested number, at or after any number given, of the smallest sample held"; 14 where there is none
+abbrev pub nextFragOf : Cursor → ReaderProxy → List ℕ → List ℕ → NextFragRequested
+nextFragOf at h samples words =
+    unless (rowsOf (row 1 (not (fragsOk h samples words)) ∷ row 14 (eqb (nextFragment (at .from) (entriesIn h samples words)) 0) ∷ []))
+    (λ a. record { answer = a; sample = numberAt 0; fragment = fragmentAt 0; cursor = cursorAt 0 })
+    (record {
+      answer = done;
+      sample = numberAt (nextSample (entriesIn h samples words));
+      fragment = fragmentAt (nextFragment (at .from) (entriesIn h samples words));
+      cursor = cursorPast (nextFragment (at .from) (entriesIn h samples words));
+    })
+
+-- whether any fragment is requested
+abbrev pub repairOf : ReaderProxy → List ℕ → List ℕ → Told
+repairOf h samples words =
+    unless (rowsOf (row 1 (not (fragsOk h samples words)) ∷ [])) (λ a. record { answer = a; yes = false }) (record { answer = done; yes = some (entriesIn h samples words) })

@@ -1,0 +1,185 @@
+// The requested fragments: samples, and 64 words of bits for each.
+ghost use mathlib.Core.Path.{_≡_};
+ghost use mathlib.Core.List.{[], _∷_};
+ghost use mathlib.Core.Bool.{not};
+ghost use Rattle.numbers.specs.Promise.{Gives2};
+ghost use Rattle.numbers.specs.Refusals.{row, rowsOf, answerOf};
+ghost use Rattle.rtps_reader_proxy.specs.Fragments.{fragsOk, countFrags, cannotAsk, noSlot, fragsRequestedOf, fragSentOf, nextFragOf, repairOf};
+use crate::proxy::Changed;
+use crate::proxy::ReaderProxy;
+use number_sets::FragmentNumberSet;
+use numbers::Answer;
+use numbers::Cursor;
+use numbers::FragmentNumber;
+use numbers::Rows;
+use numbers::SequenceNumber;
+use requested_fragments::ask;
+use requested_fragments::table;
+use rising::room;
+
+// A fragment of a sample, and the cursor past it.
+#[repr(C)]
+pub struct NextFragRequested {
+    pub answer: Answer,
+    pub sample: SequenceNumber,
+    pub fragment: FragmentNumber,
+    pub cursor: Cursor,
+}
+
+// A yes or no.
+#[repr(C)]
+pub struct Told {
+    pub answer: Answer,
+    pub yes: bool,
+}
+
+// Whether a sample number or a set is such that nothing can be asked for by it.
+fn cannot_ask(n: SequenceNumber, set: FragmentNumberSet) -> bool
+    ensures { λ r. ⌜ r ≡ cannotAsk n set ⌝ }
+{
+    let base = set.base.rank();
+    let good = n.is_sample();
+    let above = set.reaches(4097);
+    !good | ((base == 0) | above)
+}
+
+impl ReaderProxy {
+    // Whether the head and the rooms of the fragments are coherent.
+    pub fn frags_ok(self, samples: &[u64], words: &[u64]) -> bool
+        ensures { λ r. ⌜ r ≡ fragsOk self (now (samples .entry)) (now (words .entry)) ⌝ }
+    {
+        let head = self.head_ok();
+        let rooms = table::coherent(samples, words, self.frag_count);
+        head & rooms
+    }
+
+    // The answer of a call that is lent the rooms of the fragments: 1, 3, 2, 10 or done.
+    fn check_frags(
+        self,
+        samples: &[u64],
+        words: &[u64],
+        bits: bool,
+        range: bool,
+        full: bool,
+    ) -> Answer
+        ensures { λ r. ⌜ r ≡ answerOf (rowsOf (row 1 (not (fragsOk self (now (samples .entry)) (now (words .entry)))) ∷ row 3 bits ∷ row 2 range ∷ row 10 full ∷ [])) ⌝ }
+    {
+        let mut rows = Rows::none();
+        rows.incoherent = !self.frags_ok(samples, words);
+        rows.bits = bits;
+        rows.range = range;
+        rows.frags_full = full;
+        Answer::of(rows)
+    }
+
+    // Whether a request needs a slot and finds none.
+    fn no_slot(self, samples: &[u64], words: &[u64], n: u64, set: FragmentNumberSet) -> bool
+        ensures { λ r. ⌜ r ≡ noSlot n set self (now (samples .entry)) (now (words .entry)) ⌝ }
+    {
+        let size = set.size();
+        let held = room::holds(samples, self.frag_count, n);
+        (16 <= self.frag_count) & ((size != 0) & !held)
+    }
+
+    fn with_frags(mut self, count: usize) -> ReaderProxy
+        ensures { λ r. ⌜ r ≡ countFrags count self ⌝ }
+    {
+        self.frag_count = count;
+        self
+    }
+
+    // The reader asks for fragments of one sample.
+    pub fn mark_frags_requested(
+        self,
+        samples: &mut [u64],
+        words: &mut [u64],
+        n: SequenceNumber,
+        set: FragmentNumberSet,
+    ) -> Changed
+        ensures { λ r. ⌜ Gives2 r (now (samples .exit)) (now (words .exit)) (fragsRequestedOf n set self (now (samples .entry)) (now (words .entry))) ⌝ }
+    {
+        let bits = set.count;
+        let range = cannot_ask(n, set);
+        let full = self.no_slot(samples, words, n.rank(), set);
+        let answer = self.check_frags(samples, words, 256 < bits, range, full);
+        if answer.number != 0 {
+            return Changed {
+                answer,
+                proxy: self,
+            };
+        }
+        let count = ask::request(samples, words, self.frag_count, n.rank(), set);
+        let proxy = self.with_frags(count);
+        Changed { answer, proxy }
+    }
+
+    // A fragment was sent.
+    pub fn mark_frag_sent(
+        self,
+        samples: &mut [u64],
+        words: &mut [u64],
+        n: SequenceNumber,
+        f: FragmentNumber,
+    ) -> Changed
+        ensures { λ r. ⌜ Gives2 r (now (samples .exit)) (now (words .exit)) (fragSentOf n f self (now (samples .entry)) (now (words .entry))) ⌝ }
+    {
+        let answer = self.check_frags(samples, words, false, false, false);
+        if answer.number != 0 {
+            return Changed {
+                answer,
+                proxy: self,
+            };
+        }
+        let count = table::mark_sent(samples, words, self.frag_count, n.rank(), f.rank());
+        let proxy = self.with_frags(count);
+        Changed { answer, proxy }
+    }
+
+    // The first requested fragment at or after the cursor, of the smallest sample held, and the cursor past it.
+    pub fn next_frag_requested(
+        self,
+        samples: &[u64],
+        words: &[u64],
+        at: Cursor,
+    ) -> NextFragRequested
+        ensures { λ r. ⌜ r ≡ nextFragOf at self (now (samples .entry)) (now (words .entry)) ⌝ }
+    {
+        let next = table::next(samples, words, self.frag_count, at.from);
+        let mut rows = Rows::none();
+        rows.incoherent = !self.frags_ok(samples, words);
+        rows.nothing = next.none;
+        let answer = Answer::of(rows);
+        if answer.number != 0 {
+            return NextFragRequested {
+                answer,
+                sample: SequenceNumber(0),
+                fragment: FragmentNumber(0),
+                cursor: Cursor { from: 0 },
+            };
+        }
+        let sample = SequenceNumber::from_rank(next.sample);
+        let fragment = FragmentNumber::from_rank(next.fragment);
+        let cursor = Cursor::past(next.fragment);
+        NextFragRequested {
+            answer,
+            sample,
+            fragment,
+            cursor,
+        }
+    }
+
+    // Whether any fragment is requested.
+    pub fn repair_frags_requested(self, samples: &[u64], words: &[u64]) -> Told
+        ensures { λ r. ⌜ r ≡ repairOf self (now (samples .entry)) (now (words .entry)) ⌝ }
+    {
+        let answer = self.check_frags(samples, words, false, false, false);
+        if answer.number != 0 {
+            return Told { answer, yes: false };
+        }
+        let count = self.frag_count;
+        Told {
+            answer,
+            yes: count != 0,
+        }
+    }
+}
