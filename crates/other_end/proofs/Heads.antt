@@ -10,18 +10,12 @@ use lib.ListN.{length, getD, set, replicate, length-set, length-replicate}
 use native.Mathlib.Omega.{arith}
 use borrow.Author.Tests.{ltb-true, ltb-false, lt-ltb, le-ltb, le-leb, eqb-true, eqb-false, eq-eqb, ne-eqb, not-true}
 use Rattle.sets.proofs.Bools.{and-left, and-right, and-both, or-right, clash, decide}
+use Rattle.reader_list.proofs.Gather.{place-there}
 use Rattle.reader_list.specs.Readers.{Head, free, meet, frontier, placeOf, isThere, headAt, acknowledged, slotFits, slotsFit, different, fits}
 
 -- the id is there if it stands first or further on
 pub there-is : (i : ℕ) (h : Head) (hs : List Head) → isThere i (h ∷ hs) ≡ (eqb (h .id) i || isThere i hs)
-there-is i h hs = go (eqb (h .id) i)
-  where
-    go : (t : Bool) → ltb (cond t 0 (suc (placeOf i hs))) (suc (length hs)) ≡ (t || isThere i hs)
-    go true = lt-ltb 0 (suc (length hs)) (omega arith)
-    go false = elim (decide (isThere i hs)) [
-      | inl e ↦ lt-ltb (suc (placeOf i hs)) (suc (length hs)) (omega (arith, ltb-true (placeOf i hs) (length hs) e)) ∙ sym e
-      | inr e ↦ le-ltb (suc (placeOf i hs)) (suc (length hs)) (omega (arith, ltb-false (placeOf i hs) (length hs) e)) ∙ sym e
-    ]
+there-is i h hs = refl
 
 -- ONE SLOT CHANGED, the first of the id k: another id j stands where it stood
 module _ (k j : ℕ) (x : Head) (d : k ≡ j → ⊥) (c : x .id ≡ j → ⊥) where
@@ -50,7 +44,11 @@ module _ (k j : ℕ) (x : Head) (d : k ≡ j → ⊥) (c : x .id ≡ j → ⊥) 
           go false e false f r = r
 
   pub there-other : (hs : List Head) → isThere j (set hs (placeOf k hs) x) ≡ isThere j hs
-  there-other hs = ap (λ (p : ℕ). ltb p (length (set hs (placeOf k hs) x))) (place-other hs) ∙ ap (λ (n : ℕ). ltb (placeOf j hs) n) (length-set hs (placeOf k hs) x)
+  there-other hs =
+      sym (place-there j (set hs (placeOf k hs) x))
+      ∙ ap (λ (p : ℕ). ltb p (length (set hs (placeOf k hs) x))) (place-other hs)
+      ∙ ap (λ (n : ℕ). ltb (placeOf j hs) n) (length-set hs (placeOf k hs) x)
+      ∙ place-there j hs
 
 -- and the new head stands for its own id, if that is k or was not there
 pub set-own : (k : ℕ) (x : Head) (hs : List Head) → isThere k hs ≡ true → ((x .id ≡ k) ⊎ (isThere (x .id) hs ≡ false))
@@ -146,20 +144,22 @@ different-set k x (y ∷ ys) w h =
     go true e a b w r = and-both (eqb (x .id) 0 || not (isThere (x .id) ys)) (different ys) (first (eqb-true (y .id) k e) a w) b
     go false e a b w r = and-both (eqb (y .id) 0 || not (isThere (y .id) (set ys (placeOf k ys) x))) (different (set ys (placeOf k ys) x)) (later (eqb (y .id) 0) refl (eqb-false (y .id) k e) a w) (r (on w) b)
 
+all-fit : (hs : List Head) → leb 1 (length hs) ≡ true → leb (length hs) 64 ≡ true → slotsFit hs ≡ true → different hs ≡ true → fits hs ≡ true
+all-fit hs n o f d =
+    and-both (leb 1 (length hs)) (leb (length hs) 64 && (slotsFit hs && different hs)) n (and-both (leb (length hs) 64) (slotsFit hs && different hs) o (and-both (slotsFit hs) (different hs) f d))
+
 pub fits-set : (k : ℕ) (x : Head) (hs : List Head) → slotFits x ≡ true → MayCome k x hs → fits hs ≡ true → fits (set hs (placeOf k hs) x) ≡ true
 fits-set k x hs f w h =
-    let n = and-left (leb 1 (length hs) && leb (length hs) 64) (slotsFit hs && different hs) h in
-    let m = and-right (leb 1 (length hs) && leb (length hs) 64) (slotsFit hs && different hs) h in
-    and-both (leb 1 (length (set hs (placeOf k hs) x)) && leb (length (set hs (placeOf k hs) x)) 64) (slotsFit (set hs (placeOf k hs) x) && different (set hs (placeOf k hs) x))
-    (subst (λ (c : ℕ). (leb 1 c && leb c 64) ≡ true) (sym (length-set hs (placeOf k hs) x)) n)
-    (and-both (slotsFit (set hs (placeOf k hs) x)) (different (set hs (placeOf k hs) x))
-    (slots-set hs (placeOf k hs) x f (and-left (slotsFit hs) (different hs) m)) (different-set k x hs w (and-right (slotsFit hs) (different hs) m)))
+    let n = and-left (leb 1 (length hs)) (leb (length hs) 64 && (slotsFit hs && different hs)) h in
+    let r = and-right (leb 1 (length hs)) (leb (length hs) 64 && (slotsFit hs && different hs)) h in
+    let o = and-left (leb (length hs) 64) (slotsFit hs && different hs) r in
+    let m = and-right (leb (length hs) 64) (slotsFit hs && different hs) r in
+    all-fit (set hs (placeOf k hs) x) (subst (λ (c : ℕ). leb 1 c ≡ true) (sym (length-set hs (placeOf k hs) x)) n) (subst (λ (c : ℕ). leb c 64 ≡ true) (sym (length-set hs (placeOf k hs) x)) o)
+    (slots-set hs (placeOf k hs) x f (and-left (slotsFit hs) (different hs) m)) (different-set k x hs w (and-right (slotsFit hs) (different hs) m))
 
 pub fits-free : (n : ℕ) → 1 ≤ n → n ≤ 64 → fits (replicate n free) ≡ true
 fits-free n p q =
-    and-both (leb 1 (length (replicate n free)) && leb (length (replicate n free)) 64) (slotsFit (replicate n free) && different (replicate n free))
-    (subst (λ (c : ℕ). (leb 1 c && leb c 64) ≡ true) (sym (length-replicate n free)) (and-both (leb 1 n) (leb n 64) (le-leb 1 n p) (le-leb n 64 q)))
-    (and-both (slotsFit (replicate n free)) (different (replicate n free)) (all n) (apart n))
+    all-fit (replicate n free) (subst (λ (c : ℕ). leb 1 c ≡ true) (sym (length-replicate n free)) (le-leb 1 n p)) (subst (λ (c : ℕ). leb c 64 ≡ true) (sym (length-replicate n free)) (le-leb n 64 q)) (all n) (apart n)
   where
     all : (n : ℕ) → slotsFit (replicate n free) ≡ true
     all zero = refl

@@ -24,9 +24,10 @@ use Rattle.rtps_reader_proxy.specs.Unsent.{byUnsent, countUnsent, unsentBy, not
 use Rattle.rtps_reader_proxy.specs.Gaps.{byGaps, countGaps, gapsBy, beyond, gapInsertedOf, gapUpToOf}
 use Rattle.writer_send_buffer.specs.declared.flow.WriterSendBuffer.{WriterSendBuffer}
 use Rattle.writer_send_buffer.specs.declared.flow.Told.{Told}
-use Rattle.writer_send_buffer.specs.declared.frontiers.AckedFrontier.{AckedFrontier}
+use Rattle.reader_list.specs.declared.heads.AckedFrontier.{AckedFrontier}
+use Rattle.reader_list.specs.Slots.{frontierOf}
 use Rattle.writer_send_buffer.specs.Flow.{Flow, ahead, stored, wakes, raised, evicted}
-use Rattle.writer_send_buffer.specs.Buffer.{view, form, isCoherent, ranged, toldNo, frontierOf, ackedOf, sentOf, evictOf}
+use Rattle.writer_send_buffer.specs.Buffer.{view, form, isCoherent, ranged, toldNo, ackedOf, sentOf, evictOf}
 use Rattle.other_end.specs.Calls.{gapAt, gapTo, markSent, removeBefore, result, callRows}
 use Rattle.other_end.specs.Coherent.{ReaderFits}
 use Rattle.other_end.proofs.Flows.{FlowOk}

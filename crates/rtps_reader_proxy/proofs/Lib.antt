@@ -3,3 +3,4 @@ pub mod UnsentCalls
 pub mod GapCalls
 pub mod Joins
 pub mod AckCalls
+pub mod AckMeaning

@@ -1,0 +1,2 @@
+-- The definitions of `examples`.
+pub mod Table
