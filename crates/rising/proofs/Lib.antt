@@ -5,3 +5,4 @@ pub mod Inserts
 pub mod Merging
 pub mod Meaning
 pub mod Changes
+pub mod Unique
