@@ -8,7 +8,7 @@ use lib.Dec.{ltb, leb, eqb}
 use lib.ListN.{length}
 use native.Mathlib.Omega.{arith}
 use borrow.Author.Tests.{ltb-true, ltb-false, leb-true, leb-false, eqb-true, eqb-false, not-false}
-use Rattle.sets.specs.Sets.{has, From, insert, only}
+use Rattle.sets.specs.Sets.{has, empty, From, insert, only}
 use Rattle.sets.proofs.Bools.{and-left, and-right, and-both, decide}
 use Rattle.sets.proofs.Has.{has-only, From-low, From-weak, From-insert, From-only, From-raise}
 use Rattle.sets.proofs.Those.{From-those}
@@ -17,7 +17,7 @@ use Rattle.numbers.specs.Refusals.{answerOf, isDone}
 use Rattle.numbers.specs.declared.answer.Rows.{Rows}
 use Rattle.numbers.proofs.Refused.{Clear, clear}
 use Rattle.number_sets.specs.Bits.{bitAt, members}
-use Rattle.requested_fragments.specs.Entries.{Entry, isEmpty, requested, sent}
+use Rattle.requested_fragments.specs.Entries.{Entry, requested, sent}
 use Rattle.rtps_reader_proxy.specs.Reader.{Reader, withGaps, withFrags, needsRoom, gapInserted, gapUpTo}
 use Rattle.other_end.specs.Calls.{Call, gapAt, gapTo, askFrags, sentFrag, markSent, removeBefore, result, gapsFull, callRows}
 use Rattle.other_end.specs.Coherent.{ReaderFits, Entries}
@@ -32,7 +32,7 @@ pub both-false : (a b : Bool) → (a || b) ≡ false → (a ≡ false) × (b ≡
 both-false true b e = absurd (true≢false e)
 both-false false b e = (refl, e)
 
-empty-none : (l : List ℕ) (n : ℕ) → isEmpty l ≡ true → has l n ≡ false
+empty-none : (l : List ℕ) (n : ℕ) → empty l ≡ true → has l n ≡ false
 empty-none [] n e = refl
 empty-none (x ∷ xs) n e = absurd (false≢true e)
 
@@ -137,10 +137,10 @@ module _ (last : ℕ) (r : Reader) (h : ReaderFits last r) where
       k = done-clear (callRows last (askFrags n z) r) e
 
       valid : (leb 1 n && leb n topNumber) ≡ true
-      valid = not-false (leb 1 n && leb n topNumber) (both-false (not (leb 1 n && leb n topNumber)) (eqb (z .base) 0 || not (isEmpty (only (ltb topFragment) (members z)))) (k .range) .0)
+      valid = not-false (leb 1 n && leb n topNumber) (both-false (not (leb 1 n && leb n topNumber)) (eqb (z .base) 0 || not (empty (only (ltb topFragment) (members z)))) (k .range) .0)
 
-      rest : (eqb (z .base) 0 ≡ false) × (not (isEmpty (only (ltb topFragment) (members z))) ≡ false)
-      rest = both-false (eqb (z .base) 0) (not (isEmpty (only (ltb topFragment) (members z)))) (both-false (not (leb 1 n && leb n topNumber)) (eqb (z .base) 0 || not (isEmpty (only (ltb topFragment) (members z)))) (k .range) .1)
+      rest : (eqb (z .base) 0 ≡ false) × (not (empty (only (ltb topFragment) (members z))) ≡ false)
+      rest = both-false (eqb (z .base) 0) (not (empty (only (ltb topFragment) (members z)))) (both-false (not (leb 1 n && leb n topNumber)) (eqb (z .base) 0 || not (empty (only (ltb topFragment) (members z)))) (k .range) .1)
 
       low : 1 ≤ z .base
       low = let d : (z .base ≡ 0 → ⊥) = eqb-false (z .base) 0 (rest .0) in omega arith
@@ -152,7 +152,7 @@ module _ (last : ℕ) (r : Reader) (h : ReaderFits last r) where
           go (inr v) = ltb-false topFragment f v
           go (inl v) =
               absurd (true≢false (sym (has-only (ltb topFragment) (members z) f ∙ and-both (ltb topFragment f) (has (members z) f) v w)
-              ∙ empty-none (only (ltb topFragment) (members z)) f (not-false (isEmpty (only (ltb topFragment) (members z))) (rest .1))))
+              ∙ empty-none (only (ltb topFragment) (members z)) f (not-false (empty (only (ltb topFragment) (members z))) (rest .1))))
 
       all : Entries 1 (requested n (members z) (r .frags)) × (length (requested n (members z) (r .frags)) ≤ 16)
       all =

@@ -4,12 +4,12 @@ use mathlib.Core.Bool.{Bool, not, _&&_, _||_}
 use mathlib.Core.List.{List, [], _∷_, map}
 use lib.Dec.{ltb, leb, eqb}
 use lib.ListN.{length}
-use Rattle.sets.specs.Sets.{has, only}
+use Rattle.sets.specs.Sets.{has, empty, only}
 use Rattle.numbers.specs.Number.{topFragment, validRank}
 use Rattle.numbers.specs.Refusals.{row, rowsOf}
 use Rattle.numbers.specs.declared.answer.Rows.{Rows}
 use Rattle.number_sets.specs.Bits.{NumberSet, members}
-use Rattle.requested_fragments.specs.Entries.{Entry, isEmpty, requested, sent}
+use Rattle.requested_fragments.specs.Entries.{Entry, requested, sent}
 use Rattle.rtps_reader_proxy.specs.Reader.{Reader, withFrags, markedSent, removedBefore, needsRoom, gapInserted, gapUpTo}
 
 pub data Call : Type 0 where
@@ -36,14 +36,14 @@ abbrev pub gapsFull : ℕ → Reader → Bool
 gapsFull n r = needsRoom n r && leb 256 (length (r .gaps))
 
 abbrev pub needsEntry : ℕ → List ℕ → List Entry → Bool
-needsEntry n ms es = not (isEmpty ms) && not (has (map (λ e. e .sample) es) n)
+needsEntry n ms es = not (empty ms) && not (has (map (λ e. e .sample) es) n)
 
 abbrev pub fragsFull : ℕ → List ℕ → List Entry → Bool
 fragsFull n ms es = needsEntry n ms es && leb 16 (length es)
 
 -- "A sample number outside 1 to 2^63−2, base 0, or any member above 4,096 refuses the whole request with 2"
 abbrev pub fragsOut : ℕ → NumberSet → Bool
-fragsOut n z = not (validRank n) || (eqb (z .base) 0 || not (isEmpty (only (ltb topFragment) (members z))))
+fragsOut n z = not (validRank n) || (eqb (z .base) 0 || not (empty (only (ltb topFragment) (members z))))
 
 -- "A prefix end or member above `last`, a negative end and a member below 1 get 2"; what takes any number isn't refused
 abbrev pub callRows : ℕ → Call → Reader → Rows
