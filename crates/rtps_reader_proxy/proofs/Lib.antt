@@ -5,3 +5,4 @@ pub mod Joins
 pub mod AckCalls
 pub mod FragCalls
 pub mod Unique
+pub mod Whole

@@ -5,3 +5,4 @@ pub mod Unsent
 pub mod Gaps
 pub mod Acks
 pub mod Fragments
+pub mod Whole
