@@ -6,3 +6,4 @@ pub mod AckCalls
 pub mod FragCalls
 pub mod Unique
 pub mod Whole
+pub mod Kept

@@ -61,7 +61,7 @@ asks-in : (es : List Entry) → EachAsks es → Asks es
 asks-in [] a = tt
 asks-in (e ∷ es) a = ((a .0 .0, (λ n h. (From-low 1 (e .frags) n (a .0 .0) h, omega (arith, a .0 .1 .0 n h)), a .0 .1 .1)), asks-in es (a .1))
 
-asks-out : (es : List Entry) → Asks es → EachAsks es
+pub asks-out : (es : List Entry) → Asks es → EachAsks es
 asks-out [] a = tt
 asks-out (e ∷ es) a = ((a .0 .0, (λ n h. omega (arith, a .0 .1 .0 n h .1), a .0 .1 .1)), asks-out es (a .1))
 
@@ -160,9 +160,15 @@ module _ (r : Reader) (v : Valid r) where
 
   head-ok : headOk (headOf r) ≡ true
   head-ok =
-      rw (range-of (r .acked) 9223372036854775807 (omega arith) (v .acked), range-of (r .prefix) topNumber (omega arith) (v .prefix),
-      le-leb 1 (r .cap) (v .cap-low), le-leb (r .cap) 1024 (v .cap-high), le-leb (length (r .unsent)) (r .cap) (v .unsent-few),
-      le-leb (length (r .gaps)) 256 (v .gaps-few), le-leb (length (r .frags)) 16 (v .frags-few))
+      rw (
+        range-of (r .acked) 9223372036854775807 (omega arith) (v .acked),
+        range-of (r .prefix) topNumber (omega arith) (v .prefix),
+        le-leb 1 (r .cap) (v .cap-low),
+        le-leb (r .cap) 1024 (v .cap-high),
+        le-leb (length (r .unsent)) (r .cap) (v .unsent-few),
+        le-leb (length (r .gaps)) 256 (v .gaps-few),
+        le-leb (length (r .frags)) 16 (v .frags-few),
+      )
 
   pub form-coherent : isCoherent (form r) ≡ true
   form-coherent =
