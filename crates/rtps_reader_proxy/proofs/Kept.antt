@@ -6,23 +6,24 @@ use mathlib.Core.List.{List, [], _∷_}
 use mathlib.Core.Logic.{_⊎_, inl, inr}
 use native.Mathlib.Omega.{arith}
 use lib.Dec.{leb, ltb, eqb}
-use lib.ListN.{length, take}
+use lib.ListN.{length, take, drop, length-drop}
 use borrow.Author.Tests.{leb-true, leb-false, ltb-true, ltb-false, not-false}
 use Rattle.sets.specs.Sets.{From, has, empty, insert, union, only, between, without, smallest, largest}
 use Rattle.sets.proofs.Bools.{and-left, and-right, decide}
 use Rattle.sets.proofs.Has.{has-only, has-between, From-low, From-only, From-raise}
-use Rattle.sets.proofs.Smallest.{smallest-few, largest-few}
+use Rattle.sets.proofs.Smallest.{smallest-few, largest-few, From-drop, has-drop-sub}
 use Rattle.numbers.specs.Number.{topNumber}
 use Rattle.rising.specs.Runs.{risesAbove}
-use Rattle.rising.proofs.Meaning.{Rising, rises-are, are-rising, rising-only, rising-smallest, rising-largest, rising-insert, rising-union}
+use Rattle.rising.proofs.Meaning.{Rising, rises-are, are-rising, rising-only, rising-smallest, rising-largest, rising-insert, rising-union, rising-sub}
 use Rattle.rising.proofs.Changes.{only-le, insert-le}
 use Rattle.requested_fragments.specs.Entries.{Entry, samplesOf, requested, sent}
 use Rattle.requested_fragments.specs.Table.{coherentRooms, entriesOf, samplesRoom, wordsRoom, askedIn, markedIn}
 use Rattle.requested_fragments.proofs.Meaning.{Within}
 use Rattle.requested_fragments.proofs.Form.{marked-again}
 use Rattle.requested_fragments.proofs.Both.{Valid as EntriesValid, rooms-pass, rooms-hold, entries-valid}
-use Rattle.rtps_reader_proxy.specs.Reader.{Reader, fresh, withUnsent, withGaps, withFrags, baseOf, isAhead, isLate, ackedAfter, staying, wanted, acknowledge, notified, markedSent, removedBefore, needsRoom, gapInserted, gapUpTo, needsSlot, fragsRequested, fragSent}
+use Rattle.rtps_reader_proxy.specs.Reader.{Reader, fresh, withUnsent, withGaps, withFrags, baseOf, isAhead, isLate, ackedAfter, staying, wanted, acknowledge, notified, markedSent, removedBefore, untaken, needsRoom, gapInserted, gapUpTo, needsSlot, fragsRequested, fragSent}
 use Rattle.rtps_reader_proxy.specs.Whole.{EachAsks, Valid}
+use Rattle.rtps_reader_proxy.proofs.UnsentCalls.{untaken-is}
 use Rattle.rtps_reader_proxy.proofs.FragCalls.{request-again}
 use Rattle.rtps_reader_proxy.proofs.Whole.{entries-in, asks-out}
 
@@ -69,6 +70,12 @@ module _ (r : Reader) (v : Valid r) where
 
   pub removed-valid : (n : ℕ) → Valid (removedBefore n r)
   removed-valid n = only-valid (leb n)
+
+  pub untaken-valid : (k : ℕ) → Valid (withUnsent (untaken k (r .unsent)) r)
+  untaken-valid k =
+      let e : untaken k (r .unsent) ≡ drop k (r .unsent) = untaken-is k 1 (r .unsent) (rises .from) in
+      subst (λ (u : List ℕ). Valid (withUnsent u r)) (sym e)
+      (with-unsent (drop k (r .unsent)) (omega (arith, length-drop k (r .unsent), v .unsent-few)) (rising-sub 0 (r .unsent) (drop k (r .unsent)) rises (From-drop k 1 (r .unsent) (rises .from)) (has-drop-sub k (r .unsent))))
 
   -- a gap member, where it takes no room or finds it
   pub inserted-valid : (n : ℕ) → n ≤ topNumber → (leb 256 (length (r .gaps)) && needsRoom n r) ≡ false → Valid (gapInserted n r)

@@ -7,3 +7,4 @@ pub mod FragCalls
 pub mod Unique
 pub mod Whole
 pub mod Kept
+pub mod Steps

@@ -68,6 +68,15 @@ asks-out (e ∷ es) a = ((a .0 .0, (λ n h. omega (arith, a .0 .1 .0 n h .1), a 
 pub entries-in : (r : Reader) → Valid r → EntriesValid (r .frags)
 entries-in r v = record { small = v .frags-few; rises = v .frags; asks = asks-in (r .frags) (v .asks) }
 
+-- pictures with the same parts are the same
+pub same-picture : (p q : Picture) → p .head ≡ q .head → p .unsent ≡ q .unsent → p .gaps ≡ q .gaps → p .samples ≡ q .samples → p .words ≡ q .words → p ≡ q
+same-picture p q a b c d e =
+    ap (λ (x : ReaderProxy). record { head = x; unsent = p .unsent; gaps = p .gaps; samples = p .samples; words = p .words }) a
+    ∙ ap (λ (x : List ℕ). record { head = q .head; unsent = x; gaps = p .gaps; samples = p .samples; words = p .words }) b
+    ∙ ap (λ (x : List ℕ). record { head = q .head; unsent = q .unsent; gaps = x; samples = p .samples; words = p .words }) c
+    ∙ ap (λ (x : List ℕ). record { head = q .head; unsent = q .unsent; gaps = q .gaps; samples = x; words = p .words }) d
+    ∙ ap (λ (x : List ℕ). record { head = q .head; unsent = q .unsent; gaps = q .gaps; samples = q .samples; words = x }) e
+
 -- A COHERENT PICTURE
 module _ (p : Picture) (c : isCoherent p ≡ true) where
   abbrev h : ReaderProxy
@@ -130,12 +139,7 @@ module _ (p : Picture) (c : isCoherent p ≡ true) where
     frags-back = let r = rooms-are (p .head .«frag_count») (p .samples) (p .words) fs w in (sym (r .0), sym (r .1), sym (r .2))
 
     pub form-view : form (view p) ≡ p
-    form-view =
-        ap (λ (x : ReaderProxy). record { head = x; unsent = unsentRoom (view p); gaps = gapRoom (view p); samples = samplesRoom (view p .frags); words = wordsRoom (view p .frags) }) same-head
-        ∙ ap (λ (x : List ℕ). record { head = p .head; unsent = x; gaps = gapRoom (view p); samples = samplesRoom (view p .frags); words = wordsRoom (view p .frags) }) (unsent-back .1)
-        ∙ ap (λ (x : List ℕ). record { head = p .head; unsent = p .unsent; gaps = x; samples = samplesRoom (view p .frags); words = wordsRoom (view p .frags) }) (gaps-back .1)
-        ∙ ap (λ (x : List ℕ). record { head = p .head; unsent = p .unsent; gaps = p .gaps; samples = x; words = wordsRoom (view p .frags) }) (frags-back .1)
-        ∙ ap (λ (x : List ℕ). record { head = p .head; unsent = p .unsent; gaps = p .gaps; samples = p .samples; words = x }) (frags-back .2)
+    form-view = same-picture (form (view p)) p same-head (unsent-back .1) (gaps-back .1) (frags-back .1) (frags-back .2)
       where
         same-head : headOf (view p) ≡ p .head
         same-head = rw (acked-back, unsent-back .0, prefix-back, gaps-back .0, frags-back .0)
