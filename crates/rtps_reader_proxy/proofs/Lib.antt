@@ -8,3 +8,4 @@ pub mod Unique
 pub mod Whole
 pub mod Kept
 pub mod Steps
+pub mod AllSent

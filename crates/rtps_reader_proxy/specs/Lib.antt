@@ -6,3 +6,4 @@ pub mod Gaps
 pub mod Acks
 pub mod Fragments
 pub mod Whole
+pub mod Play
