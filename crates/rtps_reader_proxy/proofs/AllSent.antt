@@ -1,0 +1,161 @@
+-- From any record whose head and fragment rooms pass the check, the reader's own calls offer every requested fragment, once, and leave none requested.
+-- Assumes nothing.
+use Prim.Native.Nat.{ℕ, zero, suc, _+_, _-_, _*_, _≤_, _<_}
+use mathlib.Core.Path.{_≡_, refl, sym, ap, subst, _∙_}
+use mathlib.Core.Bool.{Bool, true, false, not, cond, _&&_, _||_}
+use mathlib.Core.List.{List, [], _∷_}
+use native.Mathlib.Omega.{arith}
+use lib.Dec.{leb, ltb, eqb}
+use lib.ListN.{length}
+use borrow.Author.Tests.{leb-true, le-leb, lt-ltb, eq-eqb}
+use Rattle.sets.specs.Sets.{has, empty, only, firstOr}
+use Rattle.sets.proofs.Bools.{and-left, and-right, and-both}
+use Rattle.sets.proofs.Has.{has-only}
+use Rattle.numbers.specs.Number.{topNumber, topFragment, rankOf, inRange, numberAt, fragmentAt}
+use Rattle.numbers.specs.Refusals.{row, rowsOf, done, unless}
+use Rattle.numbers.specs.Cursor.{cursorAt, cursorPast}
+use Rattle.numbers.specs.Promise.{Left2}
+use Rattle.numbers.specs.declared.answer.Answer.{Answer}
+use Rattle.numbers.specs.declared.sequence_number.SequenceNumber.{SequenceNumber}
+use Rattle.numbers.specs.declared.fragment_number.FragmentNumber.{FragmentNumber}
+use Rattle.numbers.proofs.Ranks.{rank-back}
+use Rattle.rising.proofs.Meaning.{rises-are}
+use Rattle.requested_fragments.specs.Entries.{Entry, samplesOf, sent, nextSample, nextFragment, some}
+use Rattle.requested_fragments.specs.Table.{coherentRooms, entriesOf, samplesRoom, wordsRoom, markedIn}
+use Rattle.requested_fragments.specs.Drain.{Piece, allAsked, Run, offering, turns, times, isAsked}
+use Rattle.requested_fragments.proofs.Drained.{drained, once}
+use Rattle.requested_fragments.proofs.Whole.{coherent-sound}
+use Rattle.requested_fragments.proofs.Form.{marked-again}
+use Rattle.requested_fragments.proofs.Both.{Valid as EntriesValid, rooms-pass, rooms-hold, entries-valid}
+use Rattle.rtps_reader_proxy.specs.declared.proxy.ReaderProxy.{ReaderProxy}
+use Rattle.rtps_reader_proxy.specs.declared.proxy.Changed.{Changed}
+use Rattle.rtps_reader_proxy.specs.declared.fragments.NextFragRequested.{NextFragRequested}
+use Rattle.rtps_reader_proxy.specs.declared.fragments.Told.{Told}
+use Rattle.rtps_reader_proxy.specs.Reader.{Reader, fragsRequested}
+use Rattle.rtps_reader_proxy.specs.Record.{headOk}
+use Rattle.rtps_reader_proxy.specs.Fragments.{fragsOk, countFrags, entriesIn, fragSentOf, nextFragOf, repairOf}
+use Rattle.rtps_reader_proxy.specs.Play.{Played, ended, offers, onward, turn, play}
+use Rattle.rtps_reader_proxy.proofs.Whole.{HeadIs, head-is}
+
+-- what is offered is a sample number and a fragment number, which the answer can hold
+small : (es : List Entry) → EntriesValid es → (nextSample es ≤ topNumber) × (nextFragment 1 es ≤ topFragment)
+small [] v = (omega arith, omega arith)
+small (e ∷ es) v = (
+  rises-are 0 (samplesOf (e ∷ es)) (v .rises) .top (e .sample) (ap (λ (t : Bool). t || has (samplesOf es) (e .sample)) (eq-eqb (e .sample) (e .sample) refl)),
+  first (only (leb 1) (e .frags)) (λ n h. omega (arith, v .asks .0 .1 .0 n (and-right (leb 1 n) (has (e .frags) n) (sym (has-only (leb 1) (e .frags) n) ∙ h)) .1)),
+)
+  where
+    first : (l : List ℕ) → ((n : ℕ) → has l n ≡ true → n ≤ topFragment) → firstOr 0 l ≤ topFragment
+    first [] q = omega arith
+    first (x ∷ xs) q = q x (ap (λ (t : Bool). t || has xs x) (eq-eqb x x refl))
+
+module _ (h : ReaderProxy) (S W : List ℕ) (ok : fragsOk h S W ≡ true) where
+  abbrev E : List Entry
+  E = entriesIn h S W
+
+  rooms : coherentRooms (h .«frag_count») S W ≡ true
+  rooms = and-right (headOk h) (coherentRooms (h .«frag_count») S W) ok
+
+  -- the question's answer, by whether there is a next
+  abbrev no-next : Answer → NextFragRequested
+  no-next a = record { answer = a; sample = numberAt 0; fragment = fragmentAt 0; cursor = cursorAt 0 }
+
+  abbrev this-next : NextFragRequested
+  this-next = record { answer = done; sample = numberAt (nextSample (entriesIn h S W)); fragment = fragmentAt (nextFragment 1 (entriesIn h S W)); cursor = cursorPast (nextFragment 1 (entriesIn h S W)) }
+
+  abbrev next-by : Bool → NextFragRequested
+  next-by t = unless (rowsOf (row 1 false ∷ row 14 t ∷ [])) no-next this-next
+
+  next-is : nextFragOf (cursorAt 1) h S W ≡ next-by (eqb (nextFragment 1 (entriesIn h S W)) 0)
+  next-is = ap (λ (b : Bool). unless (rowsOf (row 1 (not b) ∷ row 14 (eqb (nextFragment 1 (entriesIn h S W)) 0) ∷ [])) no-next this-next) ok
+
+  -- the mark's outcome
+  abbrev left : ℕ → ℕ → List Entry
+  left n f = sent n f (entriesIn h S W)
+
+  abbrev marks : ℕ → ℕ → Left2 Changed (List ℕ) (List ℕ)
+  marks n f = record { result = record { answer = done; proxy = countFrags (length (left n f)) h }; first = samplesRoom (left n f); second = wordsRoom (left n f) }
+
+  marks-is : (n : SequenceNumber) (f : FragmentNumber) → fragSentOf n f h S W ≡ marks (rankOf n) (f .0)
+  marks-is n f =
+      ap (λ (b : Bool). unless (rowsOf (row 1 (not b) ∷ [])) (λ a. record { result = record { answer = a; proxy = h }; first = S; second = W }) (marks (rankOf n) (f .0))) ok
+
+  left-valid : (n f : ℕ) → EntriesValid (left n f)
+  left-valid n f =
+      let y = marked-again (h .«frag_count») S W n f rooms in
+      subst EntriesValid (y .1) (entries-valid (markedIn n f (h .«frag_count») S W .result) (markedIn n f (h .«frag_count») S W .first) (markedIn n f (h .«frag_count») S W .second) (y .0))
+
+  -- the record after it passes the check, and holds what is left
+  left-ok : (n f : ℕ) → fragsOk (countFrags (length (left n f)) h) (samplesRoom (left n f)) (wordsRoom (left n f)) ≡ true
+  left-ok n f =
+      let k = head-is h (and-left (headOk h) (coherentRooms (h .«frag_count») S W) ok) in
+      and-both (headOk (countFrags (length (left n f)) h)) (coherentRooms (length (left n f)) (samplesRoom (left n f)) (wordsRoom (left n f)))
+      (rw (k .acked, le-leb 1 (h .«unsent_cap») (k .cap-low), le-leb (h .«unsent_cap») 1024 (k .cap-high), le-leb (h .«unsent_count») (h .«unsent_cap») (k .unsent), k .prefix, le-leb (h .«gap_count») 256 (k .gaps), le-leb (length (left n f)) 16 (left-valid n f .small)))
+      (rooms-pass (left n f) (left-valid n f))
+
+-- what the calls did is what the turns did
+pub record Alike (p : Played) (r : Run) : Type 0 where
+  pub offered : p .offered ≡ r .offered
+  pub passes : fragsOk (p .head) (p .samples) (p .words) ≡ true
+  pub left : entriesIn (p .head) (p .samples) (p .words) ≡ r .left
+
+pub alike : (k : ℕ) (h : ReaderProxy) (S W : List ℕ) → fragsOk h S W ≡ true → Alike (play k h S W) (turns k (entriesIn h S W))
+alike zero h S W ok = record { offered = refl; passes = ok; left = refl }
+alike (suc k) h S W ok =
+    subst (λ (o : NextFragRequested). Alike (turn (play k) h S W o) (turns (suc k) (entriesIn h S W))) (sym (next-is h S W ok))
+    (go (eqb (nextFragment 1 (entriesIn h S W)) 0) (λ x y z g. alike k x y z g))
+  where
+    n : ℕ
+    n = nextSample (entriesIn h S W)
+
+    f : ℕ
+    f = nextFragment 1 (entriesIn h S W)
+
+    go : (t : Bool) → ((x : ReaderProxy) (y z : List ℕ) → fragsOk x y z ≡ true → Alike (play k x y z) (turns k (entriesIn x y z)))
+        → Alike (turn (play k) h S W (next-by h S W ok t))
+        (cond t (record { offered = []; left = entriesIn h S W })
+        (offering (record { sample = nextSample (entriesIn h S W); frag = nextFragment 1 (entriesIn h S W) }) (turns k (sent (nextSample (entriesIn h S W)) (nextFragment 1 (entriesIn h S W)) (entriesIn h S W)))))
+    go true r = record { offered = refl; passes = ok; left = refl }
+    go false r =
+        let m = small (entriesIn h S W) (entries-valid (h .«frag_count») S W (rooms h S W ok)) in
+        let en : rankOf (numberAt n) ≡ n = rank-back n (omega (arith, m .0)) in
+        let ef : fragmentAt f .0 ≡ f = ap (λ (t : Bool). cond t f 0) (lt-ltb f 4294967296 (omega (arith, m .1))) in
+        let es = left h S W ok n f in
+        let is : fragSentOf (numberAt n) (fragmentAt f) h S W ≡ marks h S W ok n f = marks-is h S W ok (numberAt n) (fragmentAt f) ∙ ap (λ (x : ℕ). marks h S W ok x (fragmentAt f .0)) en ∙ ap (marks h S W ok n) ef in
+        let q = r (countFrags (length es) h) (samplesRoom es) (wordsRoom es) (left-ok h S W ok n f) in
+        let a : Alike (onward (play k) (marks h S W ok n f)) (turns k es) = subst (λ (x : List Entry). Alike (onward (play k) (marks h S W ok n f)) (turns k x)) (rooms-hold es (left-valid h S W ok n f)) q in
+        let b : Alike (onward (play k) (fragSentOf (numberAt n) (fragmentAt f) h S W)) (turns k es) = subst (λ (x : Left2 Changed (List ℕ) (List ℕ)). Alike (onward (play k) x) (turns k es)) (sym is) a in
+        record {
+          offered =
+              ap (λ (x : ℕ). record { sample = x; frag = fragmentAt f .0 } ∷ onward (play k) (fragSentOf (numberAt n) (fragmentAt f) h S W) .offered) en
+              ∙ ap (λ (x : ℕ). record { sample = n; frag = x } ∷ onward (play k) (fragSentOf (numberAt n) (fragmentAt f) h S W) .offered) ef
+              ∙ ap (λ (l : List Piece). record { sample = n; frag = f } ∷ l) (b .offered);
+          passes = b .passes;
+          left = b .left;
+        }
+
+-- THE THEOREM, of the reader's calls
+pub record Drains (h : ReaderProxy) (S W : List ℕ) (p : Played) : Type 0 where
+  -- each requested fragment is offered once, and nothing else
+  pub offered : (n f : ℕ) → times n f (p .offered) ≡ cond (isAsked n f (entriesIn h S W)) 1 0
+  -- the record passes the check, and tells that none is requested
+  pub passes : fragsOk (p .head) (p .samples) (p .words) ≡ true
+  pub none : repairOf (p .head) (p .samples) (p .words) ≡ record { answer = done; yes = false }
+
+pub all-sent : (k : ℕ) (h : ReaderProxy) (S W : List ℕ) → fragsOk h S W ≡ true → length (allAsked (entriesIn h S W)) ≤ k → Drains h S W (play k h S W)
+all-sent k h S W ok q =
+    let a = alike k h S W ok in
+    let s = coherent-sound (h .«frag_count») S W (rooms h S W ok) in
+    let d = drained k 1 (entriesIn h S W) s q in
+    let e : some (entriesIn (play k h S W .head) (play k h S W .samples) (play k h S W .words)) ≡ false = ap some (a .left ∙ ap (λ (r : Run). r .left) d) in
+    record {
+      offered = λ n f. ap (times n f) (a .offered ∙ ap (λ (r : Run). r .offered) d) ∙ once 1 n f (entriesIn h S W) s;
+      passes = a .passes;
+      none =
+          ap (λ (b : Bool). unless (rowsOf (row 1 (not b) ∷ [])) (λ x. record { answer = x; yes = false }) (record { answer = done; yes = some (entriesIn (play k h S W .head) (play k h S W .samples) (play k h S W .words)) })) (a .passes)
+          ∙ ap (λ (b : Bool). record { answer = done; yes = b }) e;
+    }
+
+-- a request for nothing hides nothing: it changes nothing
+pub asks-nothing : (n : ℕ) (ms : List ℕ) (r : Reader) → empty ms ≡ true → fragsRequested n ms r ≡ r
+asks-nothing n ms r e = rw e

@@ -1,0 +1,291 @@
+-- What a call that answers 0 does to the whole record is the reader's step: it leaves the form of the step's reader, which is valid. Assumes nothing.
+use Prim.Native.Nat.{ℕ, zero, suc, _+_, _-_, _*_, _≤_, _<_, max}
+use mathlib.Core.Path.{_≡_, refl, sym, ap, subst, _∙_}
+use mathlib.Core.Bool.{Bool, true, false, not, cond, _&&_, _||_, true≢false, false≢true}
+use mathlib.Core.List.{List, [], _∷_}
+use native.Mathlib.Omega.{arith}
+use lib.Dec.{leb, ltb, eqb}
+use lib.ListN.{length, take}
+use borrow.Author.Tests.{eq-eqb, eqb-true, leb-true, ltb-false, not-false}
+use Rattle.sets.specs.Sets.{From, has, empty}
+use Rattle.sets.proofs.Bools.{and-left, and-right}
+use Rattle.numbers.specs.Number.{topNumber, rankOf, isSample, inRange, negative, numberAt}
+use Rattle.numbers.specs.Refusals.{Row, row, rowsOf, answerOf, done, isDone, unless}
+use Rattle.numbers.specs.Promise.{Left1, Left2, Gives1, Gives2}
+use Rattle.numbers.specs.declared.answer.Answer.{Answer}
+use Rattle.numbers.specs.declared.answer.Rows.{Rows}
+use Rattle.numbers.specs.declared.sequence_number.SequenceNumber.{SequenceNumber}
+use Rattle.numbers.specs.declared.fragment_number.FragmentNumber.{FragmentNumber}
+use Rattle.numbers.proofs.Refused.{Clear, clear}
+use Rattle.numbers.proofs.Ranks.{in-range}
+use Rattle.number_sets.specs.declared.sequence_number_set.SequenceNumberSet.{SequenceNumberSet}
+use Rattle.number_sets.specs.declared.fragment_number_set.FragmentNumberSet.{FragmentNumberSet}
+use Rattle.number_sets.specs.Bits.{members}
+use Rattle.number_sets.specs.Calls.{sequenceSet, fragmentSet}
+use Rattle.number_sets.proofs.Meaning.{members-rise}
+use Rattle.rising.specs.Runs.{roomOf, filled}
+use Rattle.requested_fragments.specs.Entries.{Entry}
+use Rattle.requested_fragments.specs.Table.{samplesRoom, wordsRoom, askable}
+use Rattle.requested_fragments.proofs.Meaning.{Within}
+use Rattle.requested_fragments.proofs.AskForm.{askable-within, askable-rises}
+use Rattle.requested_fragments.proofs.OneForm.{Words}
+use Rattle.rtps_reader_proxy.specs.declared.proxy.ReaderProxy.{ReaderProxy}
+use Rattle.rtps_reader_proxy.specs.declared.proxy.Changed.{Changed}
+use Rattle.rtps_reader_proxy.specs.declared.unsent.Taken.{Taken}
+use Rattle.rtps_reader_proxy.specs.declared.acks.AckNacked.{AckNacked}
+use Rattle.rtps_reader_proxy.specs.Reader.{Reader, withUnsent, withGaps, withFrags, isAhead, acknowledge, notified, markedSent, removedBefore, taken, untaken, needsRoom, gapInserted, gapUpTo, needsSlot, fragsRequested, fragSent}
+use Rattle.rtps_reader_proxy.specs.Record.{unsentOk, gapsOk, headOf, unsentRoom, gapRoom}
+use Rattle.rtps_reader_proxy.specs.Unsent.{countUnsent, byUnsent, unsentBy, notifiedOf, markedSentOf, removedBeforeOf, takenOf}
+use Rattle.rtps_reader_proxy.specs.Gaps.{countGaps, byGaps, gapsBy, beyond, gapInsertedOf, gapUpToOf}
+use Rattle.rtps_reader_proxy.specs.Fragments.{fragsOk, countFrags, byFrags, fragsBy, cannotAsk, noSlot, fragsRequestedOf, fragSentOf}
+use Rattle.rtps_reader_proxy.specs.Acks.{ackRows, ackNackedOf, ackLeaves}
+use Rattle.rtps_reader_proxy.specs.Whole.{Picture, isCoherent, view, form, Valid}
+use Rattle.rtps_reader_proxy.proofs.FragCalls.{CanAsk, can-ask}
+use Rattle.rtps_reader_proxy.proofs.Whole.{same-picture, view-form, form-coherent, view-valid, acked-back, prefix-back, unsent-back, gaps-back, frags-back}
+use Rattle.rtps_reader_proxy.proofs.Kept.{notified-valid, marked-valid, removed-valid, untaken-valid, inserted-valid, up-to-valid, acknowledged-valid, requested-valid, sent-valid}
+
+-- a call that answers 0 did its step, and met no row
+module _ {A : Type 0} (rows : Rows) (f : Answer → A) (d : A) (answered : A → Answer) (e : (a : Answer) → answered (f a) ≡ a) where
+  pub was-done : answered (unless rows f d) .number ≡ 0 → (unless rows f d ≡ d) × Clear rows
+  was-done z = go (isDone (answerOf rows)) refl z
+    where
+      go : (t : Bool) → isDone (answerOf rows) ≡ t → answered (cond t d (f (answerOf rows))) .number ≡ 0 → (cond t d (f (answerOf rows)) ≡ d) × Clear rows
+      go true q z = (refl, clear rows (answerOf rows) refl (eqb-true (answerOf rows .number) 0 q))
+      go false q z =
+          let y : answerOf rows .number ≡ 0 = ap (λ (a : Answer). a .number) (sym (e (answerOf rows))) ∙ z in
+          absurd (true≢false (sym (eq-eqb (answerOf rows .number) 0 y) ∙ q))
+
+-- a picture stands for a valid reader: it is its form
+pub record Stands (q : Picture) (r : Reader) : Type 0 where
+  pub is : q ≡ form r
+  pub valid : Valid r
+
+pub stands-view : (q : Picture) (r : Reader) → Stands q r → view q ≡ r
+stands-view q r s = ap view (s .is) ∙ view-form r (s .valid)
+
+pub stands-coherent : (q : Picture) (r : Reader) → Stands q r → isCoherent q ≡ true
+stands-coherent q r s = ap isCoherent (s .is) ∙ form-coherent r (s .valid)
+
+neither : (x y : Bool) → (x || y) ≡ false → (x ≡ false) × (y ≡ false)
+neither true y q = absurd (true≢false q)
+neither false y q = (refl, q)
+
+sample-is : (n : SequenceNumber) → isSample n ≡ true → (1 ≤ rankOf n) × (rankOf n ≤ topNumber)
+sample-is n s = (leb-true 1 (rankOf n) (and-left (leb 1 (rankOf n)) (leb (rankOf n) topNumber) s), leb-true (rankOf n) topNumber (and-right (leb 1 (rankOf n)) (leb (rankOf n) topNumber) s))
+
+-- "A prefix end or member above `last`": one that isn't is no more than the last number
+below-top : (n last : SequenceNumber) → beyond n last ≡ false → rankOf n ≤ topNumber
+below-top n last e =
+    let b = neither (not (inRange last topNumber)) (ltb (rankOf last) (rankOf n)) e in
+    omega (arith, ltb-false (rankOf last) (rankOf n) (b .1), in-range last topNumber (not-false (inRange last topNumber) (b .0)) .1)
+
+module _ (p : Picture) (c : isCoherent p ≡ true) (w : Words (p .words)) where
+  v : Valid (view p)
+  v = view-valid p c
+
+  -- UNSENT NUMBERS
+  module _ (x : ReaderProxy) (u : List ℕ) where
+    abbrev withUnsentRoom : Picture
+    withUnsentRoom = record { head = x; unsent = u; gaps = p .gaps; samples = p .samples; words = p .words }
+
+    put-unsent : (l : List ℕ) → x ≡ countUnsent (length l) (p .head) → u ≡ roomOf (p .head .«unsent_cap») l → withUnsentRoom ≡ form (withUnsent l (view p))
+    put-unsent l ex eu =
+        let same : headOf (withUnsent l (view p)) ≡ countUnsent (length l) (p .head) = rw (acked-back p c, prefix-back p c, gaps-back p c .0, frags-back p c w .0) in
+        same-picture withUnsentRoom (form (withUnsent l (view p))) (ex ∙ sym same) eu (sym (gaps-back p c .1)) (sym (frags-back p c w .1)) (sym (frags-back p c w .2))
+
+  module _ (rows : List Row) (f : Reader → Reader) (l : List ℕ) (ev : f (view p) ≡ withUnsent l (view p)) (eu : f (byUnsent (p .head) (p .unsent)) ≡ withUnsent l (byUnsent (p .head) (p .unsent)))
+      (r : Changed) (u : List ℕ) (g : Gives1 r u (unsentBy rows f (p .head) (p .unsent))) (z : r .answer .number ≡ 0) where
+    abbrev old-unsent : Answer → Left1 Changed (List ℕ)
+    old-unsent a = record { result = record { answer = a; proxy = p .head }; first = p .unsent }
+
+    abbrev new-unsent : Left1 Changed (List ℕ)
+    new-unsent = record { result = record { answer = done; proxy = countUnsent (length (f (byUnsent (p .head) (p .unsent)) .unsent)) (p .head) }; first = unsentRoom (f (byUnsent (p .head) (p .unsent))) }
+
+    unsent-did : (unsentBy rows f (p .head) (p .unsent) ≡ new-unsent) × Clear (rowsOf (row 1 (not (unsentOk (p .head) (p .unsent))) ∷ rows))
+    unsent-did =
+        was-done (rowsOf (row 1 (not (unsentOk (p .head) (p .unsent))) ∷ rows)) old-unsent new-unsent (λ o. o .result .answer) (λ a. refl)
+        (ap (λ (x : Changed). x .answer .number) (sym (g .result)) ∙ z)
+
+    unsent-does : Valid (f (view p)) → Stands (withUnsentRoom (r .proxy) u) (f (view p))
+    unsent-does y =
+        let d = unsent-did .0 in
+        record {
+          is =
+              put-unsent (r .proxy) u l
+              (ap (λ (o : Changed). o .proxy) (g .result ∙ ap (λ (o : Left1 Changed (List ℕ)). o .result) d) ∙ ap (λ (q : Reader). countUnsent (length (q .unsent)) (p .head)) eu)
+              (g .first ∙ ap (λ (o : Left1 Changed (List ℕ)). o .first) d ∙ ap unsentRoom eu) ∙ ap form (sym ev);
+          valid = y;
+        }
+
+  module _ (r : Changed) (u : List ℕ) where
+    pub notify-does : (n : SequenceNumber) → Gives1 r u (notifiedOf n (p .head) (p .unsent)) → r .answer .number ≡ 0 → Stands (withUnsentRoom (r .proxy) u) (notified (rankOf n) (view p))
+    notify-does n g z =
+        let k = unsent-did (row 2 (not (isSample n)) ∷ []) (notified (rankOf n)) (notified (rankOf n) (view p) .unsent) refl refl r u g z .1 in
+        let s = sample-is n (not-false (isSample n) (k .range)) in
+        unsent-does (row 2 (not (isSample n)) ∷ []) (notified (rankOf n)) (notified (rankOf n) (view p) .unsent) refl refl r u g z (notified-valid (view p) v (rankOf n) (s .0) (s .1))
+
+    pub mark-does : (n : SequenceNumber) → Gives1 r u (markedSentOf n (p .head) (p .unsent)) → r .answer .number ≡ 0 → Stands (withUnsentRoom (r .proxy) u) (markedSent (rankOf n) (view p))
+    mark-does n g z = unsent-does [] (markedSent (rankOf n)) (markedSent (rankOf n) (view p) .unsent) refl refl r u g z (marked-valid (view p) v (rankOf n))
+
+    pub remove-before-does : (n : SequenceNumber) → Gives1 r u (removedBeforeOf n (p .head) (p .unsent)) → r .answer .number ≡ 0 → Stands (withUnsentRoom (r .proxy) u) (removedBefore (rankOf n) (view p))
+    remove-before-does n g z = unsent-does [] (removedBefore (rankOf n)) (removedBefore (rankOf n) (view p) .unsent) refl refl r u g z (removed-valid (view p) v (rankOf n))
+
+  pub take-does : (out : List ℕ) (r : Taken) (u o : List ℕ) → Gives2 r u o (takenOf (p .head) (p .unsent) out) → r .answer .number ≡ 0
+      → Stands (withUnsentRoom (r .proxy) u) (withUnsent (untaken (length out) (view p .unsent)) (view p))
+  take-does out r u o g z =
+      let l = untaken (length out) (view p .unsent) in
+      let d = was-done (rowsOf (row 1 (not (unsentOk (p .head) (p .unsent))) ∷ [])) not-taken is-taken (λ o. o .result .answer) (λ a. refl) (ap (λ (x : Taken). x .answer .number) (sym (g .result)) ∙ z) .0 in
+      record {
+        is =
+            put-unsent (r .proxy) u l (ap (λ (o : Taken). o .proxy) (g .result ∙ ap (λ (o : Left2 Taken (List ℕ) (List ℕ)). o .result) d))
+            (g .first ∙ ap (λ (o : Left2 Taken (List ℕ) (List ℕ)). o .first) d);
+        valid = untaken-valid (view p) v (length out);
+      }
+    where
+      not-taken : Answer → Left2 Taken (List ℕ) (List ℕ)
+      not-taken a = record { result = record { answer = a; count = 0; proxy = p .head }; first = p .unsent; second = out }
+
+      is-taken : Left2 Taken (List ℕ) (List ℕ)
+      is-taken =
+          record {
+            result = record { answer = done; count = length (taken (length out) (view p .unsent)); proxy = countUnsent (length (untaken (length out) (view p .unsent))) (p .head) };
+            first = unsentRoom (withUnsent (untaken (length out) (view p .unsent)) (byUnsent (p .head) (p .unsent)));
+            second = filled (taken (length out) (view p .unsent)) out;
+          }
+
+  -- THE PENDING GAP
+  module _ (x : ReaderProxy) (g : List ℕ) where
+    abbrev withGapRoom : Picture
+    withGapRoom = record { head = x; unsent = p .unsent; gaps = g; samples = p .samples; words = p .words }
+
+    put-gaps : (e : ℕ) (l : List ℕ) → x ≡ countGaps e (length l) (p .head) → g ≡ roomOf 256 l → withGapRoom ≡ form (withGaps e l (view p))
+    put-gaps e l ex eg =
+        let same : headOf (withGaps e l (view p)) ≡ countGaps e (length l) (p .head) = rw (acked-back p c, unsent-back p c .0, frags-back p c w .0) in
+        same-picture withGapRoom (form (withGaps e l (view p))) (ex ∙ sym same) (sym (unsent-back p c .1)) eg (sym (frags-back p c w .1)) (sym (frags-back p c w .2))
+
+  module _ (rows : List Row) (f : Reader → Reader) (e : ℕ) (l : List ℕ) (ev : f (view p) ≡ withGaps e l (view p)) (eg : f (byGaps (p .head) (p .gaps)) ≡ withGaps e l (byGaps (p .head) (p .gaps)))
+      (r : Changed) (u : List ℕ) (g : Gives1 r u (gapsBy rows f (p .head) (p .gaps))) (z : r .answer .number ≡ 0) where
+    abbrev old-gaps : Answer → Left1 Changed (List ℕ)
+    old-gaps a = record { result = record { answer = a; proxy = p .head }; first = p .gaps }
+
+    abbrev new-gaps : Left1 Changed (List ℕ)
+    new-gaps =
+        record {
+          result = record { answer = done; proxy = countGaps (f (byGaps (p .head) (p .gaps)) .prefix) (length (f (byGaps (p .head) (p .gaps)) .gaps)) (p .head) };
+          first = gapRoom (f (byGaps (p .head) (p .gaps)));
+        }
+
+    gaps-did : (gapsBy rows f (p .head) (p .gaps) ≡ new-gaps) × Clear (rowsOf (row 1 (not (gapsOk (p .head) (p .gaps))) ∷ rows))
+    gaps-did =
+        was-done (rowsOf (row 1 (not (gapsOk (p .head) (p .gaps))) ∷ rows)) old-gaps new-gaps (λ o. o .result .answer) (λ a. refl)
+        (ap (λ (x : Changed). x .answer .number) (sym (g .result)) ∙ z)
+
+    gaps-does : Valid (f (view p)) → Stands (withGapRoom (r .proxy) u) (f (view p))
+    gaps-does y =
+        let d = gaps-did .0 in
+        record {
+          is =
+              put-gaps (r .proxy) u e l
+              (ap (λ (o : Changed). o .proxy) (g .result ∙ ap (λ (o : Left1 Changed (List ℕ)). o .result) d) ∙ ap (λ (q : Reader). countGaps (q .prefix) (length (q .gaps)) (p .head)) eg)
+              (g .first ∙ ap (λ (o : Left1 Changed (List ℕ)). o .first) d ∙ ap gapRoom eg) ∙ ap form (sym ev);
+          valid = y;
+        }
+
+  module _ (r : Changed) (u : List ℕ) where
+    pub insert-gap-does : (n last : SequenceNumber) → Gives1 r u (gapInsertedOf n last (p .head) (p .gaps)) → r .answer .number ≡ 0 → Stands (withGapRoom (r .proxy) u) (gapInserted (rankOf n) (view p))
+    insert-gap-does n last g z =
+        let rows = row 2 (not (isSample n) || beyond n last) ∷ row 9 (leb 256 (p .head .«gap_count») && needsRoom (rankOf n) (byGaps (p .head) (p .gaps))) ∷ [] in
+        let f = gapInserted (rankOf n) in
+        let l = gapInserted (rankOf n) (view p) .gaps in
+        let k = gaps-did rows f (view p .prefix) l refl refl r u g z .1 in
+        let s = sample-is n (not-false (isSample n) (neither (not (isSample n)) (beyond n last) (k .range) .0)) in
+        gaps-does rows f (view p .prefix) l refl refl r u g z
+        (inserted-valid (view p) v (rankOf n) (s .1) (ap (λ (m : ℕ). leb 256 m && needsRoom (rankOf n) (view p)) (gaps-back p c .0) ∙ k .gaps-full))
+
+    pub gap-up-to-does : (e last : SequenceNumber) → Gives1 r u (gapUpToOf e last (p .head) (p .gaps)) → r .answer .number ≡ 0 → Stands (withGapRoom (r .proxy) u) (gapUpTo (rankOf e) (view p))
+    gap-up-to-does e last g z =
+        let rows = row 2 (negative e || beyond e last) ∷ [] in
+        let f = gapUpTo (rankOf e) in
+        let k = gaps-did rows f (max (view p .prefix) (rankOf e)) (gapUpTo (rankOf e) (view p) .gaps) refl refl r u g z .1 in
+        gaps-does rows f (max (view p .prefix) (rankOf e)) (gapUpTo (rankOf e) (view p) .gaps) refl refl r u g z
+        (up-to-valid (view p) v (rankOf e) (below-top e last (neither (negative e) (beyond e last) (k .range) .1)))
+
+  -- REQUESTED FRAGMENTS
+  module _ (x : ReaderProxy) (s t : List ℕ) where
+    abbrev withFragRooms : Picture
+    withFragRooms = record { head = x; unsent = p .unsent; gaps = p .gaps; samples = s; words = t }
+
+    put-frags : (es : List Entry) → x ≡ countFrags (length es) (p .head) → s ≡ samplesRoom es → t ≡ wordsRoom es → withFragRooms ≡ form (withFrags es (view p))
+    put-frags es ex e1 e2 =
+        let same : headOf (withFrags es (view p)) ≡ countFrags (length es) (p .head) = rw (acked-back p c, prefix-back p c, unsent-back p c .0, gaps-back p c .0) in
+        same-picture withFragRooms (form (withFrags es (view p))) (ex ∙ sym same) (sym (unsent-back p c .1)) (sym (gaps-back p c .1)) e1 e2
+
+  module _ (rows : List Row) (f : Reader → Reader) (es : List Entry) (ev : f (view p) ≡ withFrags es (view p)) (ef : f (byFrags (p .head) (p .samples) (p .words)) .frags ≡ es)
+      (r : Changed) (s t : List ℕ) (g : Gives2 r s t (fragsBy rows f (p .head) (p .samples) (p .words))) (z : r .answer .number ≡ 0) where
+    abbrev old-frags : Answer → Left2 Changed (List ℕ) (List ℕ)
+    old-frags a = record { result = record { answer = a; proxy = p .head }; first = p .samples; second = p .words }
+
+    abbrev new-frags : Left2 Changed (List ℕ) (List ℕ)
+    new-frags =
+        record {
+          result = record { answer = done; proxy = countFrags (length (f (byFrags (p .head) (p .samples) (p .words)) .frags)) (p .head) };
+          first = samplesRoom (f (byFrags (p .head) (p .samples) (p .words)) .frags);
+          second = wordsRoom (f (byFrags (p .head) (p .samples) (p .words)) .frags);
+        }
+
+    frags-did : (fragsBy rows f (p .head) (p .samples) (p .words) ≡ new-frags) × Clear (rowsOf (row 1 (not (fragsOk (p .head) (p .samples) (p .words))) ∷ rows))
+    frags-did =
+        was-done (rowsOf (row 1 (not (fragsOk (p .head) (p .samples) (p .words))) ∷ rows)) old-frags new-frags (λ o. o .result .answer) (λ a. refl)
+        (ap (λ (x : Changed). x .answer .number) (sym (g .result)) ∙ z)
+
+    frags-does : Valid (f (view p)) → Stands (withFragRooms (r .proxy) s t) (f (view p))
+    frags-does y =
+        let d = frags-did .0 in
+        record {
+          is =
+              put-frags (r .proxy) s t es
+              (ap (λ (o : Changed). o .proxy) (g .result ∙ ap (λ (o : Left2 Changed (List ℕ) (List ℕ)). o .result) d) ∙ ap (λ (q : List Entry). countFrags (length q) (p .head)) ef)
+              (g .first ∙ ap (λ (o : Left2 Changed (List ℕ) (List ℕ)). o .first) d ∙ ap samplesRoom ef)
+              (g .second ∙ ap (λ (o : Left2 Changed (List ℕ) (List ℕ)). o .second) d ∙ ap wordsRoom ef) ∙ ap form (sym ev);
+          valid = y;
+        }
+
+  module _ (r : Changed) (s t : List ℕ) where
+    pub frags-requested-does : (n : SequenceNumber) (set : FragmentNumberSet) → Gives2 r s t (fragsRequestedOf n set (p .head) (p .samples) (p .words)) → r .answer .number ≡ 0
+        → Stands (withFragRooms (r .proxy) s t) (fragsRequested (rankOf n) (members (fragmentSet set)) (view p))
+    frags-requested-does n set g z =
+        let rows = row 3 (ltb 256 (set .count)) ∷ row 2 (cannotAsk n set) ∷ row 10 (noSlot (rankOf n) set (p .head) (p .samples) (p .words)) ∷ [] in
+        let ms = members (fragmentSet set) in
+        let f = fragsRequested (rankOf n) ms in
+        let k = frags-did rows f (f (view p) .frags) refl refl r s t g z .1 in
+        let a = can-ask n set (k .range) in
+        frags-does rows f (f (view p) .frags) refl refl r s t g z
+        (requested-valid (view p) v (rankOf n) ms (subst (From 1) (a .all) (askable-rises set)) (subst (λ (l : List ℕ). Within l 64) (a .all) (askable-within set)) (a .low) (a .high)
+        (ap (λ (m : ℕ). leb 16 m && needsSlot (rankOf n) ms (view p)) (frags-back p c w .0) ∙ k .frags-full))
+
+    pub frag-sent-does : (n : SequenceNumber) (k : FragmentNumber) → Gives2 r s t (fragSentOf n k (p .head) (p .samples) (p .words)) → r .answer .number ≡ 0
+        → Stands (withFragRooms (r .proxy) s t) (fragSent (rankOf n) (k .0) (view p))
+    frag-sent-does n k g z = frags-does [] (fragSent (rankOf n) (k .0)) (fragSent (rankOf n) (k .0) (view p) .frags) refl refl r s t g z (sent-valid (view p) v (rankOf n) (k .0))
+
+  -- AN ACKNOWLEDGEMENT
+  pub ack-nack-does : (set : SequenceNumberSet) (last : SequenceNumber) (r : AckNacked) (u g : List ℕ) → Gives2 r u g (ackNackedOf set last (p .head) (p .unsent) (p .gaps)) → r .answer .number ≡ 0
+      → Stands (record { head = r .proxy; unsent = u; gaps = g; samples = p .samples; words = p .words }) (acknowledge (rankOf last) (rankOf (set .base)) (members (sequenceSet set)) (view p))
+  ack-nack-does set last r u g o z =
+      let did = was-done (ackRows (p .head) (p .unsent) (p .gaps) set last) not-acked (ackLeaves set (rankOf last) (p .head) (p .unsent) (p .gaps)) (λ x. x .result .answer) (λ a. refl) (ap (λ (x : AckNacked). x .answer .number) (sym (o .result)) ∙ z) in
+      let k = did .1 in
+      let rg = neither (negative (set .base)) (not (inRange last topNumber)) (k .range) in
+      let q = acknowledge (rankOf last) (rankOf (set .base)) (members (sequenceSet set)) (view p) in
+      let same : headOf q ≡ ackLeaves set (rankOf last) (p .head) (p .unsent) (p .gaps) .result .proxy = rw (prefix-back p c, frags-back p c w .0) in
+      record {
+        is =
+            same-picture (record { head = r .proxy; unsent = u; gaps = g; samples = p .samples; words = p .words }) (form q)
+            (ap (λ (x : AckNacked). x .proxy) (o .result ∙ ap (λ (x : Left2 AckNacked (List ℕ) (List ℕ)). x .result) (did .0)) ∙ sym same)
+            (o .first ∙ ap (λ (x : Left2 AckNacked (List ℕ) (List ℕ)). x .first) (did .0)) (o .second ∙ ap (λ (x : Left2 AckNacked (List ℕ) (List ℕ)). x .second) (did .0))
+            (sym (frags-back p c w .1)) (sym (frags-back p c w .2));
+        valid =
+            acknowledged-valid (view p) v (rankOf last) (rankOf (set .base)) (rankOf (set .base)) (members (sequenceSet set)) (members-rise (sequenceSet set))
+            (in-range last topNumber (not-false (inRange last topNumber) (rg .1)) .1) (k .ahead);
+      }
+    where
+      not-acked : Answer → Left2 AckNacked (List ℕ) (List ℕ)
+      not-acked a = record { result = record { answer = a; «left_out» = 0; proxy = p .head }; first = p .unsent; second = p .gaps }

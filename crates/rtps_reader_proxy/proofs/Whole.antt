@@ -1,0 +1,188 @@
+-- The reader record whole, and the reader that it stands for: a coherent picture is the form of its reader, and a valid reader is what its form shows.
+-- Assumes nothing.
+use Prim.Native.Nat.{ℕ, zero, suc, _+_, _-_, _*_, _≤_, _<_, max}
+use mathlib.Core.Path.{_≡_, refl, sym, ap, subst, _∙_}
+use mathlib.Core.Bool.{Bool, true, false, not, cond, _&&_}
+use mathlib.Core.List.{List, [], _∷_}
+use native.Mathlib.Omega.{arith}
+use lib.Dec.{leb, ltb, eqb}
+use lib.ListN.{length, take, length-take}
+use lib.Seq.{length-take-le}
+use borrow.Author.Tests.{leb-true, le-leb, eq-eqb}
+use Rattle.sets.specs.Sets.{From, has, empty}
+use Rattle.sets.proofs.Bools.{and-left, and-right, and-both}
+use Rattle.sets.proofs.Has.{From-low}
+use Rattle.numbers.specs.Number.{topNumber, topFragment, rankOf, inRange, numberAt}
+use Rattle.numbers.specs.declared.sequence_number.SequenceNumber.{SequenceNumber}
+use Rattle.numbers.proofs.Ranks.{rank-back, range-back, range-of, in-range}
+use Rattle.rising.specs.Runs.{risesAbove, runOk, roomOf}
+use Rattle.rising.proofs.Meaning.{Rising, rises-are, are-rising, room-take, room-length, room-ok, room-is}
+use Rattle.requested_fragments.specs.Entries.{Entry, samplesOf}
+use Rattle.requested_fragments.specs.Table.{coherentRooms, entriesOf, samplesRoom, wordsRoom}
+use Rattle.requested_fragments.proofs.OneForm.{Words}
+use Rattle.requested_fragments.proofs.Both.{Valid as EntriesValid, Asks, rooms-pass, rooms-hold, entries-valid, rooms-are}
+use Rattle.rtps_reader_proxy.specs.declared.proxy.ReaderProxy.{ReaderProxy}
+use Rattle.rtps_reader_proxy.specs.Reader.{Reader}
+use Rattle.rtps_reader_proxy.specs.Record.{headOk, unsentOk, gapsOk, gapFloor, headOf, unsentRoom, gapRoom}
+use Rattle.rtps_reader_proxy.specs.Fragments.{fragsOk, entriesIn}
+use Rattle.rtps_reader_proxy.specs.Whole.{Picture, isCoherent, view, form, EachAsks, Valid}
+use Rattle.rtps_reader_proxy.proofs.UnsentCalls.{UnsentIs, unsent-is}
+use Rattle.rtps_reader_proxy.proofs.GapCalls.{GapsAre, gaps-are}
+
+-- what the check of the head says
+pub record HeadIs (h : ReaderProxy) : Type 0 where
+  pub acked : inRange (h .«all_acked_before») 9223372036854775807 ≡ true
+  pub cap-low : 1 ≤ h .«unsent_cap»
+  pub cap-high : h .«unsent_cap» ≤ 1024
+  pub unsent : h .«unsent_count» ≤ h .«unsent_cap»
+  pub prefix : inRange (h .«gap_prefix_end») topNumber ≡ true
+  pub gaps : h .«gap_count» ≤ 256
+  pub frags : h .«frag_count» ≤ 16
+
+pub head-is : (h : ReaderProxy) → headOk h ≡ true → HeadIs h
+head-is h e =
+    let x1 = and-right (inRange (h .«all_acked_before») 9223372036854775807) _ e in
+    let x2 = and-right (leb 1 (h .«unsent_cap»)) _ x1 in
+    let x3 = and-right (leb (h .«unsent_cap») 1024) _ x2 in
+    let x4 = and-right (leb (h .«unsent_count») (h .«unsent_cap»)) _ x3 in
+    let x5 = and-right (inRange (h .«gap_prefix_end») topNumber) _ x4 in
+    record {
+      acked = and-left (inRange (h .«all_acked_before») 9223372036854775807) _ e;
+      cap-low = leb-true 1 (h .«unsent_cap») (and-left (leb 1 (h .«unsent_cap»)) _ x1);
+      cap-high = leb-true (h .«unsent_cap») 1024 (and-left (leb (h .«unsent_cap») 1024) _ x2);
+      unsent = leb-true (h .«unsent_count») (h .«unsent_cap») (and-left (leb (h .«unsent_count») (h .«unsent_cap»)) _ x3);
+      prefix = and-left (inRange (h .«gap_prefix_end») topNumber) _ x4;
+      gaps = leb-true (h .«gap_count») 256 (and-left (leb (h .«gap_count») 256) (leb (h .«frag_count») 16) x5);
+      frags = leb-true (h .«frag_count») 16 (and-right (leb (h .«gap_count») 256) (leb (h .«frag_count») 16) x5);
+    }
+
+-- entries, in the words of document 01 and in those of the table
+asks-in : (es : List Entry) → EachAsks es → Asks es
+asks-in [] a = tt
+asks-in (e ∷ es) a = ((a .0 .0, (λ n h. (From-low 1 (e .frags) n (a .0 .0) h, omega (arith, a .0 .1 .0 n h)), a .0 .1 .1)), asks-in es (a .1))
+
+pub asks-out : (es : List Entry) → Asks es → EachAsks es
+asks-out [] a = tt
+asks-out (e ∷ es) a = ((a .0 .0, (λ n h. omega (arith, a .0 .1 .0 n h .1), a .0 .1 .1)), asks-out es (a .1))
+
+pub entries-in : (r : Reader) → Valid r → EntriesValid (r .frags)
+entries-in r v = record { small = v .frags-few; rises = v .frags; asks = asks-in (r .frags) (v .asks) }
+
+-- pictures with the same parts are the same
+pub same-picture : (p q : Picture) → p .head ≡ q .head → p .unsent ≡ q .unsent → p .gaps ≡ q .gaps → p .samples ≡ q .samples → p .words ≡ q .words → p ≡ q
+same-picture p q a b c d e =
+    ap (λ (x : ReaderProxy). record { head = x; unsent = p .unsent; gaps = p .gaps; samples = p .samples; words = p .words }) a
+    ∙ ap (λ (x : List ℕ). record { head = q .head; unsent = x; gaps = p .gaps; samples = p .samples; words = p .words }) b
+    ∙ ap (λ (x : List ℕ). record { head = q .head; unsent = q .unsent; gaps = x; samples = p .samples; words = p .words }) c
+    ∙ ap (λ (x : List ℕ). record { head = q .head; unsent = q .unsent; gaps = q .gaps; samples = x; words = p .words }) d
+    ∙ ap (λ (x : List ℕ). record { head = q .head; unsent = q .unsent; gaps = q .gaps; samples = q .samples; words = x }) e
+
+-- A COHERENT PICTURE
+module _ (p : Picture) (c : isCoherent p ≡ true) where
+  abbrev h : ReaderProxy
+  h = p .head
+
+  pub us : UnsentIs (p .head) (p .unsent)
+  us = unsent-is (p .head) (p .unsent) (and-left (unsentOk (p .head) (p .unsent)) (gapsOk (p .head) (p .gaps) && fragsOk (p .head) (p .samples) (p .words)) c)
+
+  rest : (gapsOk (p .head) (p .gaps) && fragsOk (p .head) (p .samples) (p .words)) ≡ true
+  rest = and-right (unsentOk (p .head) (p .unsent)) (gapsOk (p .head) (p .gaps) && fragsOk (p .head) (p .samples) (p .words)) c
+
+  pub gs : GapsAre (p .head) (p .gaps)
+  gs = gaps-are (p .head) (p .gaps) (and-left (gapsOk (p .head) (p .gaps)) (fragsOk (p .head) (p .samples) (p .words)) rest)
+
+  pub fs : coherentRooms (p .head .«frag_count») (p .samples) (p .words) ≡ true
+  fs = and-right (headOk (p .head)) (coherentRooms (p .head .«frag_count») (p .samples) (p .words)) (and-right (gapsOk (p .head) (p .gaps)) (fragsOk (p .head) (p .samples) (p .words)) rest)
+
+  pub hs : HeadIs (p .head)
+  hs = head-is (p .head) (us .head)
+
+  -- each part is that of its reader
+  pub acked-back : numberAt (rankOf (p .head .«all_acked_before»)) ≡ p .head .«all_acked_before»
+  acked-back = range-back (p .head .«all_acked_before») 9223372036854775807 (omega arith) (hs .acked)
+
+  pub prefix-back : numberAt (rankOf (p .head .«gap_prefix_end»)) ≡ p .head .«gap_prefix_end»
+  prefix-back = range-back (p .head .«gap_prefix_end») topNumber (omega arith) (hs .prefix)
+
+  pub unsent-back : (length (view p .unsent) ≡ p .head .«unsent_count») × (unsentRoom (view p) ≡ p .unsent)
+  unsent-back = (
+    length-take-le (p .head .«unsent_count») (p .unsent) (us .run .fits),
+    ap (λ (m : ℕ). roomOf m (view p .unsent)) (sym (us .long)) ∙ sym (room-is 0 (p .head .«unsent_count») (p .unsent) (us .run)),
+  )
+
+  pub gaps-back : (length (view p .gaps) ≡ p .head .«gap_count») × (gapRoom (view p) ≡ p .gaps)
+  gaps-back = (
+    length-take-le (p .head .«gap_count») (p .gaps) (gs .run .fits),
+    ap (λ (m : ℕ). roomOf m (view p .gaps)) (sym (gs .long)) ∙ sym (room-is (gapFloor (p .head)) (p .head .«gap_count») (p .gaps) (gs .run)),
+  )
+
+  pub view-valid : Valid (view p)
+  view-valid =
+      let v = entries-valid (p .head .«frag_count») (p .samples) (p .words) fs in
+      record {
+        acked = in-range (p .head .«all_acked_before») 9223372036854775807 (hs .acked) .1;
+        cap-low = hs .cap-low;
+        cap-high = hs .cap-high;
+        unsent-few = omega (arith, unsent-back .0, hs .unsent);
+        unsent = are-rising 0 (view p .unsent) (us .run .rises);
+        prefix = in-range (p .head .«gap_prefix_end») topNumber (hs .prefix) .1;
+        gaps-few = omega (arith, gaps-back .0, hs .gaps);
+        gaps = are-rising (gapFloor (p .head)) (view p .gaps) (gs .run .rises);
+        frags-few = v .small;
+        frags = v .rises;
+        asks = asks-out (view p .frags) (v .asks);
+      }
+
+  -- THERE AND BACK: nothing in the record is outside its reader
+  module _ (w : Words (p .words)) where
+    pub frags-back : (length (view p .frags) ≡ p .head .«frag_count») × (samplesRoom (view p .frags) ≡ p .samples) × (wordsRoom (view p .frags) ≡ p .words)
+    frags-back = let r = rooms-are (p .head .«frag_count») (p .samples) (p .words) fs w in (sym (r .0), sym (r .1), sym (r .2))
+
+    pub form-view : form (view p) ≡ p
+    form-view = same-picture (form (view p)) p same-head (unsent-back .1) (gaps-back .1) (frags-back .1) (frags-back .2)
+      where
+        same-head : headOf (view p) ≡ p .head
+        same-head = rw (acked-back, unsent-back .0, prefix-back, gaps-back .0, frags-back .0)
+
+-- A VALID READER
+module _ (r : Reader) (v : Valid r) where
+  rises : Rising 0 (r .unsent)
+  rises = rises-are 0 (r .unsent) (v .unsent)
+
+  gap-rises : Rising (max (r .prefix) (r .acked - 1)) (r .gaps)
+  gap-rises = rises-are (max (r .prefix) (r .acked - 1)) (r .gaps) (v .gaps)
+
+  acked-is : rankOf (headOf r .«all_acked_before») ≡ r .acked
+  acked-is = rank-back (r .acked) (omega (arith, v .acked))
+
+  prefix-is : rankOf (headOf r .«gap_prefix_end») ≡ r .prefix
+  prefix-is = rank-back (r .prefix) (omega (arith, v .prefix))
+
+  pub view-form : view (form r) ≡ r
+  view-form =
+      rw (acked-is, prefix-is, room-take (r .cap) (r .unsent), room-take 256 (r .gaps), rooms-hold (r .frags) (entries-in r v))
+
+  head-ok : headOk (headOf r) ≡ true
+  head-ok =
+      rw (
+        range-of (r .acked) 9223372036854775807 (omega arith) (v .acked),
+        range-of (r .prefix) topNumber (omega arith) (v .prefix),
+        le-leb 1 (r .cap) (v .cap-low),
+        le-leb (r .cap) 1024 (v .cap-high),
+        le-leb (length (r .unsent)) (r .cap) (v .unsent-few),
+        le-leb (length (r .gaps)) 256 (v .gaps-few),
+        le-leb (length (r .frags)) 16 (v .frags-few),
+      )
+
+  pub form-coherent : isCoherent (form r) ≡ true
+  form-coherent =
+      let fl : gapFloor (headOf r) ≡ max (r .prefix) (r .acked - 1) = rw (acked-is, prefix-is) in
+      let u : runOk 0 (length (r .unsent)) (unsentRoom r) ≡ true = room-ok 0 (r .cap) (r .unsent) (v .unsent-few) rises in
+      let g : runOk (gapFloor (headOf r)) (length (r .gaps)) (gapRoom r) ≡ true = ap (λ (x : ℕ). runOk x (length (r .gaps)) (gapRoom r)) fl ∙ room-ok (max (r .prefix) (r .acked - 1)) 256 (r .gaps) (v .gaps-few) gap-rises in
+      and-both (unsentOk (headOf r) (unsentRoom r)) (gapsOk (headOf r) (gapRoom r) && fragsOk (headOf r) (samplesRoom (r .frags)) (wordsRoom (r .frags)))
+      (and-both (headOk (headOf r)) (eqb (length (unsentRoom r)) (r .cap) && runOk 0 (length (r .unsent)) (unsentRoom r)) head-ok
+      (and-both (eqb (length (unsentRoom r)) (r .cap)) (runOk 0 (length (r .unsent)) (unsentRoom r)) (eq-eqb (length (unsentRoom r)) (r .cap) (room-length (r .cap) (r .unsent) (v .unsent-few))) u))
+      (and-both (gapsOk (headOf r) (gapRoom r)) (fragsOk (headOf r) (samplesRoom (r .frags)) (wordsRoom (r .frags)))
+      (and-both (headOk (headOf r)) (eqb (length (gapRoom r)) 256 && runOk (gapFloor (headOf r)) (length (r .gaps)) (gapRoom r)) head-ok
+      (and-both (eqb (length (gapRoom r)) 256) (runOk (gapFloor (headOf r)) (length (r .gaps)) (gapRoom r)) (eq-eqb (length (gapRoom r)) 256 (room-length 256 (r .gaps) (v .gaps-few))) g))
+      (and-both (headOk (headOf r)) (coherentRooms (length (r .frags)) (samplesRoom (r .frags)) (wordsRoom (r .frags))) head-ok (rooms-pass (r .frags) (entries-in r v))))
