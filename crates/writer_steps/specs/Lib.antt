@@ -1,0 +1,3 @@
+-- The definitions of `writer_steps`.
+pub mod Answers
+pub mod Send
