@@ -1,3 +1,4 @@
 -- Laws that belong to no one function.
 pub mod Answered
 pub mod Sends
+pub mod Stores

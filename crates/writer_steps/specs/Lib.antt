@@ -1,3 +1,4 @@
 -- The definitions of `writer_steps`.
 pub mod Answers
 pub mod Send
+pub mod Readers

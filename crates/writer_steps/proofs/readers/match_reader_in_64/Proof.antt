@@ -1,0 +1,34 @@
+-- `match_reader_in_64` meets its contract. Assumes nothing.
+use mathlib.Core.Path.{ap, _∙_}
+use Rattle.reader_list.specs.declared.arrays.Changed64.{Changed64}
+use Rattle.reader_list.specs.Slots.{matchOf}
+use Rattle.writer_steps.specs.Readers.{listed64}
+use Rattle.writer_steps.proofs.Stores.{list-stepped}
+use borrow.Author.Needs.{needs}
+use Rattle.writer_steps.proofs.readers.match_reader_in_64.Statement.{statement}
+use Rattle.writer_steps.proofs.readers.match_reader_in_64.Tie as tie
+
+add-in-64-requires : tie.Need-add-in-64-requires
+add-in-64-requires c κs = search needs
+
+frontier-in-64-requires : tie.Need-frontier-in-64-requires
+frontier-in-64-requires c κs = search needs
+
+stored-requires : tie.Need-stored-requires
+stored-requires c κs = search needs
+
+listed-64-requires : tie.Need-listed-64-requires
+listed-64-requires c κs = search needs
+
+returns : tie.Need-returns
+returns c = c .listed-64 .ensures ∙ ap listed64 (list-stepped (c .before .before .before .before .before .before .args .heads) (c .before .before .before .before .before .before .args .flow) (matchOf (c .before .before .before .before .before .before .args .heads) (c .before .before .before .before .before .before .args .m)) (c .before .before .before .before .before .add-in-64 .result .answer) (c .before .before .before .before .before .add-in-64 .result .heads) (ap (λ (x : Changed64). x .answer) (c .before .before .before .before .before .add-in-64 .ensures)) (ap (λ (x : Changed64). x .heads) (c .before .before .before .before .before .add-in-64 .ensures)) (c .before .before .frontier-in-64 .result) (c .before .before .frontier-in-64 .ensures) (c .before .stored .result) (c .before .stored .ensures))
+
+pub match-reader-in-64-spec : {M : Type 1} → statement M
+match-reader-in-64-spec =
+    tie.close
+    (tie.spec
+    add-in-64-requires
+    frontier-in-64-requires
+    stored-requires
+    listed-64-requires
+    returns)
