@@ -1,0 +1,5 @@
+-- The definitions of `trace_lines`.
+pub mod Words
+pub mod Sets
+pub mod Lines
+pub mod Examples
