@@ -2,3 +2,4 @@
 pub mod Answered
 pub mod Sends
 pub mod Stores
+pub mod Acknowledges
