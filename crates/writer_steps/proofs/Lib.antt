@@ -3,3 +3,4 @@ pub mod Answered
 pub mod Sends
 pub mod Stores
 pub mod Acknowledges
+pub mod Together
