@@ -5,10 +5,10 @@ use mathlib.Core.Bool.{Bool, true, false, cond, _||_, false≢true}
 use mathlib.Core.List.{List, [], _∷_, map}
 use lib.Dec.{eqb}
 use borrow.Author.Tests.{eq-eqb, ne-eqb, eqb-true, eqb-false}
-use Rattle.numbers.specs.Refusals.{Row, row, rowsOf, table, firstOf, answerOf, isDone}
+use Rattle.numbers.specs.Refusals.{Row, row, rowsOf, table, firstOf, answerOf, done, isDone, unless}
 use Rattle.numbers.specs.declared.answer.Answer.{Answer}
 use Rattle.numbers.specs.declared.answer.Rows.{Rows}
-use Rattle.numbers.proofs.Refused.{Clear, clear}
+use Rattle.numbers.proofs.Refused.{Clear, clear, done-is, is-done}
 use Rattle.writer_steps.specs.Answers.{said, numbers, earlier, firstAnswer, stepped}
 
 -- the outcome, by the answer
@@ -18,3 +18,78 @@ module _ {A : Type 0} (answers : List Answer) (a : Answer) (q : a ≡ firstAnswe
 
   pub step-done : a .number ≡ 0 → d ≡ stepped answers f d
   step-done e = sym (ap (λ (t : Bool). cond t d (f (firstAnswer answers))) (ap isDone (sym q) ∙ eq-eqb (a .number) 0 e))
+
+-- A CALL'S ANSWER IS THAT OF ITS ROWS
+module _ {A : Type 0} (g : A → Answer) (r : Rows) (f : Answer → A) (d : A) (hf : (a : Answer) → g (f a) ≡ a) (hd : g d ≡ done) where
+  pub unless-answer : g (unless r f d) ≡ answerOf r
+  unless-answer = go (isDone (answerOf r)) refl
+    where
+      go : (t : Bool) → isDone (answerOf r) ≡ t → g (cond t d (f (answerOf r))) ≡ answerOf r
+      go true e = hd ∙ sym (done-is (answerOf r) (eqb-true (answerOf r .number) 0 e))
+      go false e = hf (answerOf r)
+
+  pub unless-done : g (unless r f d) .number ≡ 0 → unless r f d ≡ d
+  unless-done z = sym (is-done r (answerOf r) refl f d (sym (ap (λ (x : Answer). x .number) unless-answer) ∙ z))
+
+-- WHERE A STEP IS DONE, SO IS EACH OF ITS CALLS
+
+-- a number that is none of the rows'
+abbrev Apart : ℕ → List Row → Type 0
+Apart n [] = Unit {0}
+Apart n (r ∷ rs) = (eqb n (r .number) ≡ false) × Apart n rs
+
+apart-0 : (n : ℕ) (rs : List Row) → n ≡ firstOf rs → Apart n rs → n ≡ 0
+apart-0 n [] e p = e
+apart-0 n (r ∷ rs) e p = go (r .holds) e (λ q. apart-0 n rs q (p .1))
+  where
+    go : (t : Bool) → n ≡ cond t (r .number) (firstOf rs) → (n ≡ firstOf rs → n ≡ 0) → n ≡ 0
+    go true q k = absurd (eqb-false n (r .number) (p .0) q)
+    go false q k = k q
+
+abbrev pub saidRows : Answer → Answer → Rows
+saidRows a b = rowsOf (map (λ n. row n (said a b n)) numbers)
+
+-- a call x with the rows r, that is one of the two
+module _ (a b x : Answer) (r : Rows) (q : x ≡ answerOf r) (one : (n : ℕ) → said a b n ≡ false → eqb (x .number) n ≡ false) where
+  part-done : earlier a b .number ≡ 0 → x .number ≡ 0
+  part-done z =
+      let c : Clear (saidRows a b) = clear (saidRows a b) (earlier a b) refl z in
+      apart-0 (x .number) (table r) (ap (λ (y : Answer). y .number) q) (
+        one 13 (c .limit),
+        (
+          one 1 (c .incoherent),
+          (
+            one 3 (c .bits),
+            (
+              one 2 (c .range),
+              (
+                one 11 (c .reader),
+                (
+                  one 12 (c .ahead),
+                  (
+                    one 4 (c .payload),
+                    (
+                      one 5 (c .used-up),
+                      (one 6 (c .would-block), (one 7 (c .store-full), (one 8 (c .readers-full), (one 9 (c .gaps-full), (one 10 (c .frags-full), (one 14 (c .nothing), tt)))))),
+                    ),
+                  ),
+                ),
+              ),
+            ),
+          ),
+        ),
+      )
+
+pub left-done : (a b : Answer) (r : Rows) → a ≡ answerOf r → earlier a b .number ≡ 0 → a .number ≡ 0
+left-done a b r q z = part-done a b a r q (λ n e. or-first (eqb (a .number) n) (eqb (b .number) n) e) z
+  where
+    or-first : (x y : Bool) → (x || y) ≡ false → x ≡ false
+    or-first true y e = e
+    or-first false y e = refl
+
+pub right-done : (a b : Answer) (r : Rows) → b ≡ answerOf r → earlier a b .number ≡ 0 → b .number ≡ 0
+right-done a b r q z = part-done a b b r q (λ n e. or-second (eqb (a .number) n) (eqb (b .number) n) e) z
+  where
+    or-second : (x y : Bool) → (x || y) ≡ false → y ≡ false
+    or-second true y e = absurd (false≢true (sym e))
+    or-second false y e = e

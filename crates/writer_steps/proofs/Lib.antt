@@ -2,3 +2,5 @@
 pub mod Answered
 pub mod Sends
 pub mod Stores
+pub mod Acknowledges
+pub mod Together

@@ -2,3 +2,4 @@
 pub mod Answers
 pub mod Send
 pub mod Readers
+pub mod Acks

@@ -2,6 +2,7 @@
 use Prim.Native.Nat.{ℕ}
 use mathlib.Core.Bool.{cond}
 use mathlib.Core.List.{List, [], _∷_}
+use Rattle.numbers.specs.Number.{rankOf}
 use Rattle.numbers.specs.Refusals.{done, isDone}
 use Rattle.numbers.specs.Promise.{Left1}
 use Rattle.numbers.specs.declared.answer.Answer.{Answer}
@@ -51,3 +52,7 @@ listed64 o = record { woken = o .result; heads = o .first }
 
 abbrev pub listed2 : Left1 Woken (List ReaderHead) → Listed2
 listed2 o = record { woken = o .result; heads = o .first }
+
+-- the frontier that a flow record has stored; 0 stands for an absent one
+abbrev pub frontierIn : WriterSendBuffer → ℕ
+frontierIn f = cond (f .present) (rankOf (f .acked)) 0

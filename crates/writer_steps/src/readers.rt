@@ -54,7 +54,7 @@ pub fn stored(before: Answer, front: Front, flow: WriterSendBuffer) -> Woken
     }
 }
 
-fn listed_64(woken: Woken, old: [ReaderHead; 64], new: [ReaderHead; 64]) -> Listed64
+pub fn listed_64(woken: Woken, old: [ReaderHead; 64], new: [ReaderHead; 64]) -> Listed64
     ensures { λ r. ⌜ r ≡ listed64 (record { result = woken; first = listed woken old new }) ⌝ }
 {
     let told = woken.told;
@@ -65,7 +65,7 @@ fn listed_64(woken: Woken, old: [ReaderHead; 64], new: [ReaderHead; 64]) -> List
     Listed64 { woken, heads: new }
 }
 
-fn listed_2(woken: Woken, old: [ReaderHead; 2], new: [ReaderHead; 2]) -> Listed2
+pub fn listed_2(woken: Woken, old: [ReaderHead; 2], new: [ReaderHead; 2]) -> Listed2
     ensures { λ r. ⌜ r ≡ listed2 (record { result = woken; first = listed woken old new }) ⌝ }
 {
     let told = woken.told;

@@ -1,0 +1,23 @@
+-- `agreement` meets its contract. Assumes nothing.
+use borrow.Author.Needs.{needs}
+use Rattle.writer_steps.proofs.acks.agreement.Statement.{statement}
+use Rattle.writer_steps.proofs.acks.agreement.Tie as tie
+
+rank-requires : tie.Need-rank-requires
+rank-requires c κs = search needs
+
+rank-requires-2 : tie.Need-rank-requires-2
+rank-requires-2 c κs = search needs
+
+none-requires : tie.Need-none-requires
+none-requires c κs = search needs
+
+of-requires : tie.Need-of-requires
+of-requires c κs = search needs
+
+returns : tie.Need-returns
+returns c = rw (c .of .ensures, c .before .before .none .ensures, c .before .before .before .rank2 .ensures .is, c .before .before .before .before .rank .ensures .is)
+
+pub agreement-spec : {M : Type 1} → statement M
+agreement-spec =
+    tie.close (tie.spec rank-requires rank-requires-2 none-requires of-requires returns)
