@@ -4,3 +4,5 @@ pub mod Sends
 pub mod Stores
 pub mod Acknowledges
 pub mod Together
+pub mod Moves
+pub mod Unique

@@ -7,6 +7,7 @@ use Rattle.numbers.specs.Number.{rankOf}
 use Rattle.numbers.specs.Refusals.{row, rowsOf, answerOf, isDone}
 use Rattle.numbers.specs.Promise.{Left1, Left2, Left3}
 use Rattle.numbers.specs.declared.answer.Answer.{Answer}
+use Rattle.numbers.specs.declared.answer.Rows.{Rows}
 use Rattle.numbers.specs.declared.sequence_number.SequenceNumber.{SequenceNumber}
 use Rattle.number_sets.specs.declared.sequence_number_set.SequenceNumberSet.{SequenceNumberSet}
 use Rattle.rtps_reader_proxy.specs.declared.proxy.ReaderProxy.{ReaderProxy}
@@ -33,8 +34,11 @@ abbrev pub foreseenOf : SequenceNumberSet → SequenceNumber → ReaderProxy →
 foreseenOf set last h unsent gaps = foreseenIn (ackNackedOf set last h unsent gaps)
 
 -- where there is both a reader's record and its head, they agree on acked, or it is 1
+abbrev pub agreeRows : Found → ReaderProxy → Rows
+agreeRows found h = rowsOf (row 1 (isDone (found .answer) && not (eqb (rankOf (found .head .acked)) (rankOf (h .«all_acked_before»)))) ∷ [])
+
 abbrev pub agreeOf : Found → ReaderProxy → Answer
-agreeOf found h = answerOf (rowsOf (row 1 (isDone (found .answer) && not (eqb (rankOf (found .head .acked)) (rankOf (h .«all_acked_before»)))) ∷ []))
+agreeOf found h = answerOf (agreeRows found h)
 
 -- the head's acked becomes the record's; 1, 3, 2, 11 and 12 come from here
 abbrev pub ackList : List ReaderHead → ℕ → ReaderProxy → Foreseen → Left1 Answer (List ReaderHead)

@@ -3,3 +3,4 @@ pub mod Answers
 pub mod Send
 pub mod Readers
 pub mod Acks
+pub mod Write
