@@ -6,7 +6,3 @@ pub mod AckCalls
 pub mod AckMeaning
 pub mod FragCalls
 pub mod Unique
-pub mod Whole
-pub mod Kept
-pub mod Steps
-pub mod AllSent

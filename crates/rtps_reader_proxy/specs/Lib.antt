@@ -5,5 +5,3 @@ pub mod Unsent
 pub mod Gaps
 pub mod Acks
 pub mod Fragments
-pub mod Whole
-pub mod Play

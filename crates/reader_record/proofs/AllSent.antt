@@ -27,15 +27,15 @@ use Rattle.requested_fragments.proofs.Drained.{drained, once}
 use Rattle.requested_fragments.proofs.Whole.{coherent-sound}
 use Rattle.requested_fragments.proofs.Form.{marked-again}
 use Rattle.requested_fragments.proofs.Both.{Valid as EntriesValid, rooms-pass, rooms-hold, entries-valid}
 use Rattle.rtps_reader_proxy.specs.declared.proxy.ReaderProxy.{ReaderProxy}
 use Rattle.rtps_reader_proxy.specs.declared.proxy.Changed.{Changed}
 use Rattle.rtps_reader_proxy.specs.declared.fragments.NextFragRequested.{NextFragRequested}
 use Rattle.rtps_reader_proxy.specs.declared.fragments.Told.{Told}
 use Rattle.rtps_reader_proxy.specs.Reader.{Reader, fragsRequested}
 use Rattle.rtps_reader_proxy.specs.Record.{headOk}
 use Rattle.rtps_reader_proxy.specs.Fragments.{fragsOk, countFrags, entriesIn, fragSentOf, nextFragOf, repairOf}
-use Rattle.rtps_reader_proxy.specs.Play.{Played, ended, offers, onward, turn, play}
-use Rattle.rtps_reader_proxy.proofs.Whole.{HeadIs, head-is}
+use Rattle.reader_record.specs.Play.{Played, ended, offers, onward, turn, play}
+use Rattle.reader_record.proofs.Whole.{HeadIs, head-is}
 
 -- what is offered is a sample number and a fragment number, which the answer can hold
 small : (es : List Entry) → EntriesValid es → (nextSample es ≤ topNumber) × (nextFragment 1 es ≤ topFragment)

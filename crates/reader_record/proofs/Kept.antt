@@ -21,11 +21,11 @@ use Rattle.requested_fragments.specs.Table.{coherentRooms, entriesOf, samplesRo
 use Rattle.requested_fragments.proofs.Meaning.{Within}
 use Rattle.requested_fragments.proofs.Form.{marked-again}
 use Rattle.requested_fragments.proofs.Both.{Valid as EntriesValid, rooms-pass, rooms-hold, entries-valid}
 use Rattle.rtps_reader_proxy.specs.Reader.{Reader, fresh, withUnsent, withGaps, withFrags, baseOf, isAhead, isLate, ackedAfter, staying, wanted, acknowledge, notified, markedSent, removedBefore, untaken, needsRoom, gapInserted, gapUpTo, needsSlot, fragsRequested, fragSent}
-use Rattle.rtps_reader_proxy.specs.Whole.{EachAsks, Valid}
+use Rattle.reader_record.specs.Whole.{EachAsks, Valid}
 use Rattle.rtps_reader_proxy.proofs.UnsentCalls.{untaken-is}
 use Rattle.rtps_reader_proxy.proofs.FragCalls.{request-again}
-use Rattle.rtps_reader_proxy.proofs.Whole.{entries-in, asks-out}
+use Rattle.reader_record.proofs.Whole.{entries-in, asks-out}
 
 -- "A match adds a reader with acked 0 and empty sets"
 pub fresh-valid : (m : ℕ) → 1 ≤ m → m ≤ 1024 → Valid (fresh m)

@@ -29,20 +29,20 @@ use Rattle.requested_fragments.specs.Table.{samplesRoom, wordsRoom, askable}
 use Rattle.requested_fragments.proofs.Meaning.{Within}
 use Rattle.requested_fragments.proofs.AskForm.{askable-within, askable-rises}
 use Rattle.requested_fragments.proofs.OneForm.{Words}
 use Rattle.rtps_reader_proxy.specs.declared.proxy.ReaderProxy.{ReaderProxy}
 use Rattle.rtps_reader_proxy.specs.declared.proxy.Changed.{Changed}
 use Rattle.rtps_reader_proxy.specs.declared.unsent.Taken.{Taken}
 use Rattle.rtps_reader_proxy.specs.declared.acks.AckNacked.{AckNacked}
 use Rattle.rtps_reader_proxy.specs.Reader.{Reader, withUnsent, withGaps, withFrags, isAhead, acknowledge, notified, markedSent, removedBefore, taken, untaken, needsRoom, gapInserted, gapUpTo, needsSlot, fragsRequested, fragSent}
 use Rattle.rtps_reader_proxy.specs.Record.{unsentOk, gapsOk, headOf, unsentRoom, gapRoom}
 use Rattle.rtps_reader_proxy.specs.Unsent.{countUnsent, byUnsent, unsentBy, notifiedOf, markedSentOf, removedBeforeOf, takenOf}
 use Rattle.rtps_reader_proxy.specs.Gaps.{countGaps, byGaps, gapsBy, beyond, gapInsertedOf, gapUpToOf}
 use Rattle.rtps_reader_proxy.specs.Fragments.{fragsOk, countFrags, byFrags, fragsBy, cannotAsk, noSlot, fragsRequestedOf, fragSentOf}
 use Rattle.rtps_reader_proxy.specs.Acks.{ackRows, ackNackedOf, ackLeaves}
-use Rattle.rtps_reader_proxy.specs.Whole.{Picture, isCoherent, view, form, Valid}
+use Rattle.reader_record.specs.Whole.{Picture, isCoherent, view, form, Valid}
 use Rattle.rtps_reader_proxy.proofs.FragCalls.{CanAsk, can-ask}
-use Rattle.rtps_reader_proxy.proofs.Whole.{same-picture, view-form, form-coherent, view-valid, acked-back, prefix-back, unsent-back, gaps-back, frags-back}
-use Rattle.rtps_reader_proxy.proofs.Kept.{notified-valid, marked-valid, removed-valid, untaken-valid, inserted-valid, up-to-valid, acknowledged-valid, requested-valid, sent-valid}
+use Rattle.reader_record.proofs.Whole.{same-picture, view-form, form-coherent, view-valid, acked-back, prefix-back, unsent-back, gaps-back, frags-back}
+use Rattle.reader_record.proofs.Kept.{notified-valid, marked-valid, removed-valid, untaken-valid, inserted-valid, up-to-valid, acknowledged-valid, requested-valid, sent-valid}
 
 -- a call that answers 0 did its step, and met no row
 module _ {A : Type 0} (rows : Rows) (f : Answer → A) (d : A) (answered : A → Answer) (e : (a : Answer) → answered (f a) ≡ a) where

@@ -21,13 +21,13 @@ use Rattle.requested_fragments.specs.Entries.{Entry, samplesOf}
 use Rattle.requested_fragments.specs.Table.{coherentRooms, entriesOf, samplesRoom, wordsRoom}
 use Rattle.requested_fragments.proofs.OneForm.{Words}
 use Rattle.requested_fragments.proofs.Both.{Valid as EntriesValid, Asks, rooms-pass, rooms-hold, entries-valid, rooms-are}
 use Rattle.rtps_reader_proxy.specs.declared.proxy.ReaderProxy.{ReaderProxy}
 use Rattle.rtps_reader_proxy.specs.Reader.{Reader}
 use Rattle.rtps_reader_proxy.specs.Record.{headOk, unsentOk, gapsOk, gapFloor, headOf, unsentRoom, gapRoom}
 use Rattle.rtps_reader_proxy.specs.Fragments.{fragsOk, entriesIn}
-use Rattle.rtps_reader_proxy.specs.Whole.{Picture, isCoherent, view, form, EachAsks, Valid}
+use Rattle.reader_record.specs.Whole.{Picture, isCoherent, view, form, EachAsks, Valid}
 use Rattle.rtps_reader_proxy.proofs.UnsentCalls.{UnsentIs, unsent-is}
 use Rattle.rtps_reader_proxy.proofs.GapCalls.{GapsAre, gaps-are}
 
 -- what the check of the head says
 pub record HeadIs (h : ReaderProxy) : Type 0 where

@@ -1,0 +1,3 @@
+-- The definitions of `reader_record`.
+pub mod Whole
+pub mod Play
