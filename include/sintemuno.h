@@ -136,6 +136,15 @@ typedef struct { sintemuno_answer answer; size_t place; sintemuno_reader_head he
 typedef struct { sintemuno_answer answer; sintemuno_frontier frontier; } sintemuno_front;
 typedef struct { sintemuno_answer answer; sintemuno_sequence_number number; bool data; sintemuno_reader proxy; } sintemuno_sent;
 
+/* The layout that the library was built with. */
+#if defined(__STDC_VERSION__) && __STDC_VERSION__ >= 201112L
+_Static_assert(sizeof(size_t) == 8 && sizeof(bool) == 1, "Sintemuno is for x86-64");
+_Static_assert(sizeof(sintemuno_set) == 48 && sizeof(sintemuno_fragment_set) == 40, "a set");
+_Static_assert(sizeof(sintemuno_reader) == 48 && sizeof(sintemuno_reader_head) == 24, "a reader and its head");
+_Static_assert(sizeof(sintemuno_writer) == 80 && offsetof(sintemuno_writer, limits) == 40, "a writer");
+_Static_assert(sizeof(sintemuno_told) == 8 && sizeof(sintemuno_sent) == 72, "answers");
+#endif
+
 /* ==== one reader ==== */
 
 /* A new reader: nothing acknowledged, nothing unsent. 13 for a cap outside 1 to 1,024. */
