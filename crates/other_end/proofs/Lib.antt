@@ -3,10 +3,9 @@ pub mod Gaps
 pub mod Found
 pub mod Heads
 pub mod Records
-pub mod Entries
 pub mod Calls
-pub mod Flows
-pub mod Tests
+pub mod Forms
+pub mod Steps
 pub mod Fine
 pub mod Sound
 pub mod Exchange
@@ -15,4 +14,3 @@ pub mod OneByOne
 pub mod Rounds
 pub mod Demand3
 pub mod Needed
-pub mod Steps
