@@ -1,0 +1,7 @@
+// The C boundary: each call under a name of its own, on numbers, repr(C) heads and lent slices.
+pub mod fragments;
+pub mod list;
+pub mod reader;
+pub mod set;
+pub mod steps;
+pub mod writer;
