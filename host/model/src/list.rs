@@ -51,6 +51,16 @@ impl ReaderList {
         Ok(())
     }
 
+    pub fn set_acked(&mut self, id: u64, acked: i64) -> Answer<()> {
+        first_of(&[
+            (!self.is_coherent(), Refusal::Incoherent),
+            (acked < 0, Refusal::OutOfRange),
+        ])?;
+        let place = self.find(id)?;
+        self.heads[place].acked = acked;
+        Ok(())
+    }
+
     /// Where the reader stands in the list.
     pub fn find(&self, id: u64) -> Answer<usize> {
         first_of(&[

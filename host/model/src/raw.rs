@@ -48,9 +48,13 @@ fn rising(room: &[u64], count: u64, length: usize) -> Option<Vec<i64>> {
 }
 
 fn fragments_of(words: &[u64]) -> BTreeSet<u32> {
-    let bit = |i: &u32| words[(i / 64) as usize] >> (i % 64) & 1 == 1;
-    let places = 0..64 * WORDS_PER_SAMPLE as u32;
-    places.filter(bit).map(|i| i + 1).collect()
+    let mut fragments = BTreeSet::new();
+    let used = words.iter().enumerate().filter(|(_, word)| **word != 0);
+    for (place, word) in used {
+        let bits = (0..64).filter(|i| word >> i & 1 == 1);
+        fragments.extend(bits.map(|i| 64 * place as u32 + i + 1));
+    }
+    fragments
 }
 
 impl RawReader {

@@ -100,7 +100,7 @@ fn list_world<S: Subjects>(
     let start = draw_list::list(prng, near);
     let (mut subject, mut judge) = (subjects.list(&start), Model.list(&start));
     for _ in 0..CALLS_PER_WORLD / 2 {
-        let call = draw_list::call(prng);
+        let call = draw_list::call(prng, near);
         let reply = subject.call(&call);
         *answers.entry(reply.answer).or_default() += 1;
         same(&call, reply, judge.call(&call))?;

@@ -44,6 +44,7 @@ pub enum WriterCall {
 pub enum ListCall {
     Match { id: u64, reliable: bool },
     Depart { id: u64 },
+    SetAcked { id: u64, acked: i64 },
     Find { id: u64 },
     Frontier,
 }
@@ -53,11 +54,12 @@ pub enum ListCall {
 #[derive(Clone, Copy, PartialEq, Eq, Debug, Default)]
 pub struct Reply {
     pub answer: u8,
-    /// The admitted sample's number, a reader's place in the list, or the
-    /// frontier (0 where it is absent).
+    /// The admitted sample's number, a found reader's acked, or the frontier (0
+    /// where it is absent).
     pub number: i64,
     /// Numbers left out at the cap.
     pub left_out: u64,
+    /// "Wake"; of a found reader, whether it is reliable.
     pub wake: bool,
 }
 

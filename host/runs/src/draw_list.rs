@@ -28,14 +28,18 @@ pub fn list(prng: &mut Prng, near: Near) -> ReaderList {
     list
 }
 
-pub fn call(prng: &mut Prng) -> ListCall {
-    match prng.below(5) {
+pub fn call(prng: &mut Prng, near: Near) -> ListCall {
+    match prng.below(6) {
         0..=1 => ListCall::Match {
             id: id(prng),
             reliable: prng.coin(),
         },
         2 => ListCall::Depart { id: id(prng) },
         3 => ListCall::Find { id: id(prng) },
+        4 => ListCall::SetAcked {
+            id: id(prng),
+            acked: near.number(prng),
+        },
         _ => ListCall::Frontier,
     }
 }

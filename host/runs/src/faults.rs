@@ -1,5 +1,5 @@
-//! Faulty libraries, to see that the runs catch them: the model with one fault
-//! in its call layer.
+//! Faulty libraries, to see that the runs catch them: a sound one, the model or
+//! the proved library, with one fault in its call layer.
 
 use model::{Kind, Limits, Reader, ReaderList, SendBuffer};
 
@@ -8,7 +8,6 @@ pub use crate::reader_faults::{FaultyReader, ReaderFault, READER_FAULTS};
 pub use crate::writer_faults::{FaultyWriter, WriterFault, WRITER_FAULTS};
 use crate::{
     list_faults::{FaultyList, ListFault},
-    model_subject::Model,
     subject::Subjects,
 };
 
@@ -21,7 +20,8 @@ pub enum CaughtBy {
 }
 
 #[derive(Default)]
-pub struct Faulty {
+pub struct Faulty<S> {
+    pub sound: S,
     pub reader: Option<ReaderFault>,
     pub writer: Option<WriterFault>,
     pub list: Option<ListFault>,
@@ -29,20 +29,22 @@ pub struct Faulty {
     pub never_13: bool,
 }
 
-impl Subjects for Faulty {
-    type Reader = FaultyReader;
-    type Writer = FaultyWriter;
-    type List = FaultyList;
+impl<S: Subjects + Clone> Subjects for Faulty<S> {
+    type Reader = FaultyReader<S>;
+    type Writer = FaultyWriter<S>;
+    type List = FaultyList<S>;
 
-    fn reader(&self, start: &Reader) -> FaultyReader {
+    fn reader(&self, start: &Reader) -> FaultyReader<S> {
         FaultyReader {
+            sound: self.sound.clone(),
             record: start.clone(),
             fault: self.reader,
         }
     }
 
-    fn writer(&self, start: &SendBuffer) -> FaultyWriter {
+    fn writer(&self, start: &SendBuffer) -> FaultyWriter<S> {
         FaultyWriter {
+            sound: self.sound.clone(),
             record: start.clone(),
             gone: Default::default(),
             told: start.flow.acked,
@@ -50,8 +52,9 @@ impl Subjects for Faulty {
         }
     }
 
-    fn list(&self, start: &ReaderList) -> FaultyList {
+    fn list(&self, start: &ReaderList) -> FaultyList<S> {
         FaultyList {
+            sound: self.sound.clone(),
             record: start.clone(),
             fault: self.list,
         }
@@ -59,10 +62,11 @@ impl Subjects for Faulty {
 
     fn new_reader(&self, cap: u64) -> Result<Reader, u8> {
         let clamped = cap.clamp(1, 1024);
-        Model.new_reader(if self.never_13 { clamped } else { cap })
+        self.sound
+            .new_reader(if self.never_13 { clamped } else { cap })
     }
 
     fn new_writer(&self, kind: Kind, limits: Limits) -> Result<SendBuffer, u8> {
-        Model.new_writer(kind, limits)
+        self.sound.new_writer(kind, limits)
     }
 }

@@ -11,6 +11,8 @@ pub mod draw_reader;
 pub mod draw_writer;
 pub mod exhaustive;
 pub mod faults;
+pub mod forms;
+pub mod library_subject;
 pub mod list_faults;
 pub mod model_subject;
 pub mod oracle_subject;

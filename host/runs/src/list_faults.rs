@@ -5,7 +5,7 @@ use model::ReaderList;
 
 use crate::{
     calls::{ListCall, Reply},
-    subject::ListSubject,
+    subject::{ListSubject, Subjects},
 };
 
 #[derive(Clone, Copy, PartialEq, Eq, Debug)]
@@ -29,12 +29,20 @@ pub const LIST_FAULTS: [ListFault; 6] = [
     MatchKeepsFrontier,
 ];
 
-pub struct FaultyList {
+pub struct FaultyList<S> {
+    pub sound: S,
     pub record: ReaderList,
     pub fault: Option<ListFault>,
 }
 
-impl FaultyList {
+impl<S: Subjects> FaultyList<S> {
+    fn soundly(&mut self, call: &ListCall) -> Reply {
+        let mut list = self.sound.list(&self.record);
+        let reply = list.call(call);
+        self.record = list.record();
+        reply
+    }
+
     fn frontier(&self) -> Option<i64> {
         let heads = self.record.heads.iter();
         let all = self.fault == Some(FrontierOverAll);
@@ -47,20 +55,21 @@ impl FaultyList {
     }
 }
 
-impl ListSubject for FaultyList {
+impl<S: Subjects> ListSubject for FaultyList<S> {
     fn call(&mut self, call: &ListCall) -> Reply {
         let full = self.record.heads.len() >= self.record.room;
         match (self.fault, call) {
             (Some(FullBeforeKnown), ListCall::Match { .. }) if full => Reply::refused(8),
             (Some(DepartureForgotten), ListCall::Depart { id }) => {
-                let answer = self.record.call(&ListCall::Find { id: *id }).answer;
+                let answer = self.soundly(&ListCall::Find { id: *id }).answer;
                 Reply::refused(answer)
             }
-            (Some(MatchKeepsFrontier), ListCall::Match { .. }) => {
-                let frontier = self.record.call(&ListCall::Frontier).number;
-                let reply = self.record.call(call);
-                if let (0, Some(head)) = (reply.answer, self.record.heads.last_mut()) {
-                    head.acked = frontier;
+            (Some(MatchKeepsFrontier), ListCall::Match { id, .. }) => {
+                let frontier = self.soundly(&ListCall::Frontier).number;
+                let reply = self.soundly(call);
+                if reply.answer == 0 {
+                    let mut heads = self.record.heads.iter_mut();
+                    heads.find(|h| h.id == *id).expect("matched").acked = frontier;
                 }
                 reply
             }
@@ -68,7 +77,7 @@ impl ListSubject for FaultyList {
                 number: self.frontier().unwrap_or(0),
                 ..Reply::default()
             },
-            _ => self.record.call(call),
+            _ => self.soundly(call),
         }
     }
 

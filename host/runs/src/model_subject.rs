@@ -7,6 +7,7 @@ use crate::{
     subject::{ListSubject, ReaderSubject, Subjects, WriterSubject},
 };
 
+#[derive(Clone, Copy, Default)]
 pub struct Model;
 
 impl Subjects for Model {
@@ -146,12 +147,19 @@ impl ListSubject for ReaderList {
         match call {
             ListCall::Match { id, reliable } => reply(self.match_reader(*id, *reliable), done),
             ListCall::Depart { id } => reply(self.depart(*id), done),
-            ListCall::Find { id } => reply(self.find(*id), |place| number(place as i64)),
+            ListCall::SetAcked { id, acked } => reply(self.set_acked(*id, *acked), done),
+            ListCall::Find { id } => reply(self.find(*id), |place| Reply {
+                number: self.heads[place].acked,
+                wake: self.heads[place].reliable,
+                ..Reply::default()
+            }),
             ListCall::Frontier => reply(self.frontier(), |f| number(f.unwrap_or(0))),
         }
     }
 
     fn record(&self) -> ReaderList {
-        self.clone()
+        let mut list = self.clone();
+        list.heads.sort_by_key(|h| h.id);
+        list
     }
 }

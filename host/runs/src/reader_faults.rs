@@ -5,7 +5,7 @@ use model::{Reader, Refusal};
 use crate::{
     calls::{ReaderCall, Reply},
     faults::CaughtBy,
-    subject::ReaderSubject,
+    subject::{ReaderSubject, Subjects},
 };
 
 #[derive(Clone, Copy, PartialEq, Eq, Debug)]
@@ -64,12 +64,18 @@ pub const READER_FAULTS: [(ReaderFault, CaughtBy); 23] = [
     (RequestReplaces, Crate),
 ];
 
-pub struct FaultyReader {
+pub struct FaultyReader<S> {
+    pub sound: S,
     pub record: Reader,
     pub fault: Option<ReaderFault>,
 }
 
-impl FaultyReader {
+impl<S: Subjects> FaultyReader<S> {
+    /// The sound subject as the fault has left it.
+    fn soundly(&self) -> S::Reader {
+        self.sound.reader(&self.record)
+    }
+
     /// The call as the fault hears it.
     fn heard(&self, call: &ReaderCall) -> ReaderCall {
         let mut heard = call.clone();
@@ -198,11 +204,13 @@ impl FaultyReader {
     }
 }
 
-impl ReaderSubject for FaultyReader {
+impl<S: Subjects> ReaderSubject for FaultyReader<S> {
     fn call(&mut self, call: &ReaderCall) -> Reply {
         let before = self.record.clone();
         let heard = self.heard(call);
-        let mut reply = self.record.call(&heard);
+        let mut reader = self.soundly();
+        let mut reply = reader.call(&heard);
+        self.record = reader.record();
         self.spoil(call, before, &mut reply);
         reply
     }
@@ -212,11 +220,11 @@ impl ReaderSubject for FaultyReader {
     }
 
     fn next_unsent(&self, from: i64) -> Option<i64> {
-        ReaderSubject::next_unsent(&self.record, from)
+        self.soundly().next_unsent(from)
     }
 
     fn next_pending_gap(&self, from: i64) -> Option<i64> {
-        ReaderSubject::next_pending_gap(&self.record, from)
+        self.soundly().next_pending_gap(from)
     }
 
     fn next_fragment(&self, from: u32) -> Option<(i64, u32)> {
@@ -226,14 +234,12 @@ impl ReaderSubject for FaultyReader {
                 let fragment = entry.range(from..).next()?;
                 Some((*sample, *fragment))
             }
-            Some(NextFragmentAfter) => {
-                ReaderSubject::next_fragment(&self.record, from.saturating_add(1))
-            }
-            _ => ReaderSubject::next_fragment(&self.record, from),
+            Some(NextFragmentAfter) => self.soundly().next_fragment(from.saturating_add(1)),
+            _ => self.soundly().next_fragment(from),
         }
     }
 
     fn any_requested(&self) -> bool {
-        ReaderSubject::any_requested(&self.record)
+        self.soundly().any_requested()
     }
 }

@@ -32,6 +32,8 @@ pub trait WriterSubject {
 /// The reader list, which the crate doesn't have.
 pub trait ListSubject {
     fn call(&mut self, call: &ListCall) -> Reply;
+
+    /// The readers by their ids: their order in the list has no meaning.
     fn record(&self) -> model::ReaderList;
 }
 

@@ -7,7 +7,7 @@ use model::SendBuffer;
 use crate::{
     calls::{Reply, WriterCall},
     faults::CaughtBy,
-    subject::WriterSubject,
+    subject::{Subjects, WriterSubject},
 };
 
 #[derive(Clone, Copy, PartialEq, Eq, Debug)]
@@ -58,7 +58,8 @@ pub const WRITER_FAULTS: [(WriterFault, CaughtBy); 19] = [
     (EvictPastTheLast, ModelOnly),
 ];
 
-pub struct FaultyWriter {
+pub struct FaultyWriter<S> {
+    pub sound: S,
     pub record: SendBuffer,
     /// Samples no longer retained, for the fault that still shows them.
     pub gone: BTreeMap<i64, Vec<u8>>,
@@ -67,7 +68,14 @@ pub struct FaultyWriter {
     pub fault: Option<WriterFault>,
 }
 
-impl FaultyWriter {
+impl<S: Subjects> FaultyWriter<S> {
+    fn soundly(&mut self, call: &WriterCall) -> Reply {
+        let mut writer = self.sound.writer(&self.record);
+        let reply = writer.call(call);
+        self.record = writer.record();
+        reply
+    }
+
     /// The call on a record with other limits, which are then put back.
     fn with_limits(&mut self, call: &WriterCall) -> Reply {
         let (kind, limits) = (self.record.flow.kind, self.record.flow.limits);
@@ -80,7 +88,7 @@ impl FaultyWriter {
             Some(TransientTrims) => flow.kind.volatile = true,
             _ => {}
         }
-        let reply = self.record.call(call);
+        let reply = self.soundly(call);
         self.record.flow.kind = kind;
         self.record.flow.limits = limits;
         if self.fault == Some(TrimsBesideReaders) && present && reply.answer == 0 {
@@ -93,12 +101,12 @@ impl FaultyWriter {
     fn admit(&mut self, call: &WriterCall, opted_in: bool, bytes: &[u8]) -> Reply {
         let way = crate::calls::Way::Try;
         match self.fault {
-            Some(OptInNotHeeded) => self.record.call(&WriterCall::Admit {
+            Some(OptInNotHeeded) => self.soundly(&WriterCall::Admit {
                 opted_in: false,
                 bytes: bytes.to_vec(),
                 way,
             }),
-            Some(BytesCut) if bytes.len() > 1 => self.record.call(&WriterCall::Admit {
+            Some(BytesCut) if bytes.len() > 1 => self.soundly(&WriterCall::Admit {
                 opted_in,
                 bytes: bytes[..bytes.len() - 1].to_vec(),
                 way,
@@ -107,7 +115,7 @@ impl FaultyWriter {
                 // Would-block before payload-too-long: the wrong order.
                 let room = self.record.flow.has_room(opted_in);
                 match room {
-                    true => self.record.call(call),
+                    true => self.soundly(call),
                     false => Reply::refused(6),
                 }
             }
@@ -117,7 +125,7 @@ impl FaultyWriter {
 
     fn set_acked(&mut self, call: &WriterCall, frontier: Option<i64>) -> Reply {
         let (acked, present) = (self.record.flow.acked, self.record.flow.present);
-        let mut reply = self.record.call(call);
+        let mut reply = self.soundly(call);
         if let (0, Some(frontier)) = (reply.answer, frontier) {
             self.told = frontier;
         }
@@ -134,7 +142,7 @@ impl FaultyWriter {
     }
 
     fn set_sent(&mut self, call: &WriterCall, frontier: i64) -> Reply {
-        let reply = self.record.call(call);
+        let reply = self.soundly(call);
         if self.fault == Some(SentMayFall) && reply.answer == 0 {
             self.record.flow.sent = frontier.max(0);
         }
@@ -144,18 +152,18 @@ impl FaultyWriter {
     fn evict(&mut self, call: &WriterCall, before: i64) -> Reply {
         let next = self.record.flow.last.saturating_add(1);
         match self.fault {
-            Some(EvictsOneMore) if before < next => self.record.call(&WriterCall::Evict {
+            Some(EvictsOneMore) if before < next => self.soundly(&WriterCall::Evict {
                 before: before.saturating_add(1),
             }),
             Some(EvictPastTheLast) if before > next => {
-                self.record.call(&WriterCall::Evict { before: next })
+                self.soundly(&WriterCall::Evict { before: next })
             }
-            _ => self.record.call(call),
+            _ => self.soundly(call),
         }
     }
 }
 
-impl WriterSubject for FaultyWriter {
+impl<S: Subjects> WriterSubject for FaultyWriter<S> {
     fn call(&mut self, call: &WriterCall) -> Reply {
         self.gone.extend(self.record.samples.clone());
         let mut reply = match call {
@@ -180,7 +188,7 @@ impl WriterSubject for FaultyWriter {
     }
 
     fn fetch(&self, number: i64) -> Option<Vec<u8>> {
-        let held = self.record.fetch(number);
+        let held = self.sound.writer(&self.record).fetch(number);
         match self.fault {
             Some(EvictedStillShown) => held.or_else(|| self.gone.get(&number).cloned()),
             _ => held,
@@ -192,7 +200,7 @@ impl WriterSubject for FaultyWriter {
         match self.fault {
             Some(AckedThroughAtFrontier) => !flow.present || flow.acked >= number,
             Some(FrontierNotRaisedTo1) => !flow.present || self.told > number,
-            _ => self.record.acked_through(number),
+            _ => self.sound.writer(&self.record).acked_through(number),
         }
     }
 }

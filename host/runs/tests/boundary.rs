@@ -1,17 +1,20 @@
-//! Values at the ends of their ranges, beside the crate.
+//! Values at the ends of their ranges: the model and the library beside the
+//! crate.
 
 use model::{numbers::LAST_SAMPLE, FragmentSet, Kind, Limits, NumberSet};
 use runs::{
     beside::{ReaderPair, WriterPair},
     calls::{ReaderCall, Way, WriterCall},
+    library_subject::Library,
     model_subject::Model,
     sight::Probe,
+    subject::{ReaderSubject, Subjects, WriterSubject},
 };
 
-type Pair = ReaderPair<model::Reader>;
+type Pair<S> = ReaderPair<<S as Subjects>::Reader>;
 
-fn pair(cap: usize) -> Pair {
-    ReaderPair::new(&Model, oracle::fixed_cap().unwrap_or(cap))
+fn pair<S: Subjects + Default>(cap: usize) -> Pair<S> {
+    ReaderPair::new(&S::default(), oracle::fixed_cap().unwrap_or(cap))
 }
 
 /// Sets of 256 numbers need room; a build with a small fixed cap has none.
@@ -20,7 +23,7 @@ fn small_cap() -> bool {
 }
 
 /// The call is in the compared range and both agree.
-fn agree(pair: &mut Pair, call: ReaderCall) {
+fn agree<R: ReaderSubject>(pair: &mut ReaderPair<R>, call: ReaderCall) {
     for number in [i64::MIN, 0, 1 << 32, LAST_SAMPLE, i64::MAX] {
         let probe = Probe {
             number,
@@ -43,13 +46,12 @@ fn ack(base: i64, count: u32, last: i64) -> ReaderCall {
     ReaderCall::Ack { set, last }
 }
 
-#[test]
-fn numbers_around_2_to_the_32() {
+fn numbers_around_2_to_the_32<S: Subjects + Default>() {
     if small_cap() {
         return;
     }
     let edge = 1 << 32;
-    let mut pair = pair(1024);
+    let mut pair = pair::<S>(1024);
     agree(&mut pair, ack(edge - 100, 256, edge + 50));
     agree(&mut pair, ReaderCall::Notify { number: edge });
     agree(&mut pair, ack(edge, 0, edge));
@@ -58,13 +60,12 @@ fn numbers_around_2_to_the_32() {
     agree(&mut pair, ack(edge + 2, 256, edge));
 }
 
-#[test]
-fn numbers_at_2_to_the_63() {
+fn numbers_at_2_to_the_63<S: Subjects + Default>() {
     if small_cap() {
         return;
     }
     let last = LAST_SAMPLE;
-    let mut pair = pair(1024);
+    let mut pair = pair::<S>(1024);
     agree(&mut pair, ReaderCall::Notify { number: last });
     agree(&mut pair, ack(last - 255, 256, last));
     agree(&mut pair, ack(last - 254, 256, last));
@@ -74,14 +75,13 @@ fn numbers_at_2_to_the_63() {
     agree(&mut pair, ack(last + 1, 1, last));
     let set = FragmentSet::of(4096, &[4096]).unwrap();
     agree(&mut pair, ReaderCall::Request { sample: last, set });
-    assert_eq!(pair.subject.acked, i64::MAX);
+    assert_eq!(pair.subject.record().acked, i64::MAX);
 }
 
 /// 256 bits all asked, at a cap that just holds them.
-#[test]
-fn full_sets_and_full_caps() {
+fn full_sets_and_full_caps<S: Subjects + Default>() {
     for cap in [256, 257, 1024] {
-        let mut pair = pair(cap);
+        let mut pair = pair::<S>(cap);
         if small_cap() {
             return;
         }
@@ -94,7 +94,7 @@ fn full_sets_and_full_caps() {
     }
 }
 
-fn agree_once(pair: &mut Pair, call: ReaderCall) {
+fn agree_once<R: ReaderSubject>(pair: &mut ReaderPair<R>, call: ReaderCall) {
     let probe = Probe {
         number: 1,
         fragment: 1,
@@ -104,9 +104,8 @@ fn agree_once(pair: &mut Pair, call: ReaderCall) {
 
 /// 257 bits, the cap passed, a request of nothing: outside the range, so that
 /// the crate isn't asked.
-#[test]
-fn the_range_ends() {
-    let mut pair = pair(2);
+fn the_range_ends<S: Subjects + Default>() {
+    let mut pair = pair::<S>(2);
     let probe = Probe {
         number: 0,
         fragment: 0,
@@ -130,14 +129,13 @@ fn the_range_ends() {
     }
 }
 
-#[test]
-fn gaps_and_fragments_to_the_full() {
-    let mut pair = pair(8);
+fn gaps_and_fragments_to_the_full<S: Subjects + Default>() {
+    let mut pair = pair::<S>(8);
     let last = 5000;
     for number in (2..=512).step_by(2) {
         agree_once(&mut pair, ReaderCall::Gap { number, last });
     }
-    assert_eq!(pair.subject.gaps.len(), 256);
+    assert_eq!(pair.subject.record().gaps.len(), 256);
     agree(&mut pair, ReaderCall::GapUpTo { end: 4096, last });
     agree(&mut pair, ReaderCall::Gap { number: last, last });
     for sample in 1..=16 {
@@ -164,12 +162,11 @@ fn gaps_and_fragments_to_the_full() {
             },
         );
     }
-    assert_eq!(pair.subject.frags.len(), 15);
+    assert_eq!(pair.subject.record().frags.len(), 15);
 }
 
 /// 256 slots of 8,192 bytes, used more than once.
-#[test]
-fn a_full_store() {
+fn a_full_store<S: Subjects + Default>() {
     let kind = Kind {
         reliable: true,
         builtin: false,
@@ -182,7 +179,7 @@ fn a_full_store() {
         slots: 256,
         slot_bytes: 8192,
     };
-    let mut pair = WriterPair::new(&Model, kind, limits);
+    let mut pair = WriterPair::new(&S::default(), kind, limits);
     let probe = Probe {
         number: 1,
         fragment: 0,
@@ -195,5 +192,40 @@ fn a_full_store() {
         };
         assert_eq!(pair.step(&call, probe), Ok(true));
     }
-    assert_eq!(pair.subject.flow.first, 45);
+    assert_eq!(pair.subject.record().flow.first, 45);
 }
+
+macro_rules! with {
+    ($name:ident, $subjects:ident, $($test:ident),*) => {
+        mod $name {
+            $(
+                #[test]
+                fn $test() {
+                    super::$test::<super::$subjects>();
+                }
+            )*
+        }
+    };
+}
+
+with!(
+    the_model,
+    Model,
+    numbers_around_2_to_the_32,
+    numbers_at_2_to_the_63,
+    full_sets_and_full_caps,
+    the_range_ends,
+    gaps_and_fragments_to_the_full,
+    a_full_store
+);
+
+with!(
+    the_library,
+    Library,
+    numbers_around_2_to_the_32,
+    numbers_at_2_to_the_63,
+    full_sets_and_full_caps,
+    the_range_ends,
+    gaps_and_fragments_to_the_full,
+    a_full_store
+);

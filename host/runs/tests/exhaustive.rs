@@ -1,10 +1,12 @@
-//! Short sequences, all of them, beside the crate.
+//! Short sequences, all of them: the model and the library beside the crate.
 
 use model::{FragmentSet, Kind, Limits, NumberSet};
 use runs::{
     calls::{ReaderCall, Way, WriterCall},
     exhaustive,
+    library_subject::Library,
     model_subject::Model,
+    subject::Subjects,
 };
 
 fn ack(base: i64, members: &[i64], last: i64) -> ReaderCall {
@@ -26,8 +28,7 @@ fn caps() -> Vec<usize> {
     oracle::fixed_cap().map_or(vec![1, 2, 3], |cap| vec![cap])
 }
 
-#[test]
-fn acknowledgements_and_new_numbers() {
+fn acknowledgements_and_new_numbers<S: Subjects + Default>() {
     let alphabet = [
         ack(0, &[], 2),
         ack(1, &[1, 2], 2),
@@ -42,14 +43,13 @@ fn acknowledgements_and_new_numbers() {
         ReaderCall::RemoveBefore { number: 2 },
     ];
     for cap in caps() {
-        let compared = exhaustive::readers(&Model, cap, &alphabet, 5).unwrap();
+        let compared = exhaustive::readers(&S::default(), cap, &alphabet, 5).unwrap();
         println!("cap {}: {} calls", cap, compared);
         assert!(compared > 100_000);
     }
 }
 
-#[test]
-fn gaps() {
+fn gaps<S: Subjects + Default>() {
     let gap = |number| ReaderCall::Gap { number, last: 4 };
     let up_to = |end| ReaderCall::GapUpTo { end, last: 4 };
     let alphabet = [
@@ -64,13 +64,12 @@ fn gaps() {
         ack(5, &[], 4),
     ];
     let cap = caps()[0];
-    let compared = exhaustive::readers(&Model, cap, &alphabet, 5).unwrap();
+    let compared = exhaustive::readers(&S::default(), cap, &alphabet, 5).unwrap();
     println!("{} calls", compared);
     assert!(compared > 100_000);
 }
 
-#[test]
-fn fragments() {
+fn fragments<S: Subjects + Default>() {
     let alphabet = [
         ask(1, 1, &[1, 3]),
         ask(1, 2, &[2]),
@@ -83,7 +82,7 @@ fn fragments() {
         ack(2, &[], 4),
     ];
     let cap = caps()[0];
-    let compared = exhaustive::readers(&Model, cap, &alphabet, 5).unwrap();
+    let compared = exhaustive::readers(&S::default(), cap, &alphabet, 5).unwrap();
     println!("{} calls", compared);
     assert!(compared > 50_000);
 }
@@ -113,8 +112,7 @@ fn kinds() -> Vec<Kind> {
     kinds
 }
 
-#[test]
-fn writers_of_every_kind() {
+fn writers_of_every_kind<S: Subjects + Default>() {
     let set_acked = |frontier| WriterCall::SetAcked { frontier };
     let alphabet = [
         admit(false, Way::Blocking),
@@ -137,9 +135,40 @@ fn writers_of_every_kind() {
                 slots: 3,
                 slot_bytes: 2,
             };
-            compared += exhaustive::writers(&Model, kind, limits, &alphabet, 5).unwrap();
+            compared += exhaustive::writers(&S::default(), kind, limits, &alphabet, 5).unwrap();
         }
     }
     println!("{} calls", compared);
     assert!(compared > 1_000_000);
 }
+
+macro_rules! with {
+    ($name:ident, $subjects:ident, $($test:ident),*) => {
+        mod $name {
+            $(
+                #[test]
+                fn $test() {
+                    super::$test::<super::$subjects>();
+                }
+            )*
+        }
+    };
+}
+
+with!(
+    the_model,
+    Model,
+    acknowledgements_and_new_numbers,
+    gaps,
+    fragments,
+    writers_of_every_kind
+);
+
+with!(
+    the_library,
+    Library,
+    acknowledgements_and_new_numbers,
+    gaps,
+    fragments,
+    writers_of_every_kind
+);

@@ -1,9 +1,12 @@
-//! Every faulty library is caught, beside the crate wherever the compared range
+//! Every faulty library, made from the model and from the proved one, is caught, beside the crate wherever the compared range
 //! can show the fault, and always against the model.
 
 use runs::{
     against, beside,
     faults::{CaughtBy, Faulty, LIST_FAULTS, READER_FAULTS, WRITER_FAULTS},
+    library_subject::Library,
+    model_subject::Model,
+    subject::Subjects,
 };
 
 const CALLS: u64 = 40_000;
@@ -13,57 +16,84 @@ fn fixed_cap() -> bool {
     oracle::fixed_cap().is_some()
 }
 
-fn check(name: String, faulty: &Faulty, by: CaughtBy) {
+fn check<S: Subjects + Clone>(name: String, faulty: &Faulty<S>, by: CaughtBy) {
     let beside = beside::run(faulty, 5, CALLS).is_err();
     let against = against::run(faulty, 5, CALLS).is_err();
     assert_eq!(beside, by == CaughtBy::Crate, "{} beside the crate", name);
     assert!(against, "{} against the model", name);
 }
 
-#[test]
-fn no_fault_is_not_caught() {
-    let sound = Faulty::default();
+fn no_fault_is_not_caught<S: Subjects + Clone + Default>() {
+    let sound = Faulty::<S>::default();
     assert!(beside::run(&sound, 5, CALLS).is_ok());
     assert!(against::run(&sound, 5, CALLS).is_ok());
 }
 
-#[test]
-fn reader_faults() {
+fn reader_faults<S: Subjects + Clone + Default>() {
     if fixed_cap() {
         return;
     }
     for (fault, by) in READER_FAULTS {
-        let faulty = Faulty {
+        let faulty = Faulty::<S> {
             reader: Some(fault),
-            ..Faulty::default()
+            ..Faulty::<S>::default()
         };
         check(format!("{:?}", fault), &faulty, by);
     }
 }
 
-#[test]
-fn writer_faults() {
+fn writer_faults<S: Subjects + Clone + Default>() {
     for (fault, by) in WRITER_FAULTS {
-        let faulty = Faulty {
+        let faulty = Faulty::<S> {
             writer: Some(fault),
-            ..Faulty::default()
+            ..Faulty::<S>::default()
         };
         check(format!("{:?}", fault), &faulty, by);
     }
 }
 
-#[test]
-fn list_faults_and_creation() {
+fn list_faults_and_creation<S: Subjects + Clone + Default>() {
     for fault in LIST_FAULTS {
-        let faulty = Faulty {
+        let faulty = Faulty::<S> {
             list: Some(fault),
-            ..Faulty::default()
+            ..Faulty::<S>::default()
         };
         check(format!("{:?}", fault), &faulty, CaughtBy::ModelOnly);
     }
-    let faulty = Faulty {
+    let faulty = Faulty::<S> {
         never_13: true,
-        ..Faulty::default()
+        ..Faulty::<S>::default()
     };
     check("never 13".to_string(), &faulty, CaughtBy::ModelOnly);
 }
+
+macro_rules! faults_in {
+    ($name:ident, $sound:ty) => {
+        mod $name {
+            use super::*;
+
+            #[test]
+            fn none() {
+                no_fault_is_not_caught::<$sound>();
+            }
+
+            #[test]
+            fn of_readers() {
+                reader_faults::<$sound>();
+            }
+
+            #[test]
+            fn of_writers() {
+                writer_faults::<$sound>();
+            }
+
+            #[test]
+            fn of_lists_and_creation() {
+                list_faults_and_creation::<$sound>();
+            }
+        }
+    };
+}
+
+faults_in!(the_model, Model);
+faults_in!(the_library, Library);
