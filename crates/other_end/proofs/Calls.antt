@@ -1,7 +1,7 @@
 -- The other calls on a reader's record: one that isn't refused leaves it valid, leaves acked and cap, and adds nothing unsent. Assumes nothing.
-use Prim.Native.Nat.{ℕ, suc, _≤_, max}
+use Prim.Native.Nat.{ℕ, _≤_, max}
 use mathlib.Core.Path.{_≡_, refl, subst}
-use mathlib.Core.Bool.{Bool, true, false, not, _&&_, _||_, true≢false}
+use mathlib.Core.Bool.{Bool, true, false, not, _||_, true≢false}
 use mathlib.Core.List.{List}
 use lib.Dec.{ltb, leb, eqb}
 use native.Mathlib.Omega.{arith}

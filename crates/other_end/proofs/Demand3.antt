@@ -21,6 +21,7 @@ use Rattle.other_end.proofs.Heads.{frontier-low}
 use Rattle.other_end.proofs.Forms.{list-coherent}
 use Rattle.other_end.proofs.Fine.{Fine, base-pos}
 use Rattle.other_end.proofs.Sound.{Sound, sound-run, sound-start}
+use Rattle.other_end.proofs.AsCalled.{as-called}
 use Rattle.other_end.proofs.Round.{round-moves}
 use Rattle.other_end.proofs.OneByOne.{one-round}
 use Rattle.other_end.proofs.Rounds.{reached-round, levelled, enough}
@@ -36,6 +37,7 @@ coherent s r =
       list = list-coherent (s .flow .last) (s .heads) (h .flow .last-most) (h .low) (h .list);
       readers = λ i l e. (h .lines i l e .valid, form-coherent (l .server) (h .lines i l e .valid));
       heads = λ i l e. (h .held i l e .there, h .held i l e .head);
+      records = h .known;
       frontier = frontier-low (s .flow .last) (s .heads) (h .low);
     }
 
@@ -101,4 +103,5 @@ demand-3 =
       level = λ s s′ i r l p d. level s i l p s′ r d;
       always = λ s i l p r. always r s i l p;
       coherent = coherent;
+      calls = λ s r e. as-called s (sound s r) e;
     }

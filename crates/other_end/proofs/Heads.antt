@@ -7,11 +7,12 @@ use mathlib.Core.List.{List, [], _∷_}
 use lib.Dec.{ltb, leb, eqb}
 use lib.ListN.{length, getD, set, replicate, length-set, length-replicate}
 use native.Mathlib.Omega.{arith}
-use borrow.Author.Tests.{ltb-true, ltb-false, lt-ltb, le-ltb, le-leb, eqb-true, eqb-false, eq-eqb, ne-eqb, not-true}
+use borrow.Author.Tests.{le-leb, eqb-true, eqb-false, eq-eqb, ne-eqb, not-true}
 use Rattle.sets.proofs.Bools.{and-left, and-right, and-both, or-right, clash, decide}
 use Rattle.reader_list.proofs.Gather.{place-there}
 use Rattle.reader_list.proofs.Smallest.{at-most-each}
-use Rattle.reader_list.specs.Readers.{Head, free, meet, frontier, placeOf, isThere, headAt, acknowledged, slotFits, slotsFit, different, fits}
+use Rattle.reader_list.specs.Readers.{Head, free, meet, frontier, placeOf, isThere, headAt, departed, slotsFit, different, fits}
+use Rattle.reader_list.specs.Slots.{unknown}
 
 -- the id is there if it stands first or further on
 pub there-is : (i : ℕ) (h : Head) (hs : List Head) → isThere i (h ∷ hs) ≡ (eqb (h .id) i || isThere i hs)
@@ -80,7 +81,42 @@ set-own k x (y ∷ ys) h w = go (eqb (y .id) k) refl (sym (there-is k y ys) ∙ 
           ap (λ (t : Bool). getD (y ∷ set ys (placeOf k ys) x) (cond t 0 (suc (placeOf (x .id) (set ys (placeOf k ys) x)))) free) (off e w) ∙ o .1,
         )
 
--- COHERENCE of a new list
+-- a reader that is known has an id from 1 on, and is there; one that departed is not
+pub known-is : (i : ℕ) (hs : List Head) → unknown i hs ≡ false → ((i ≡ 0) → ⊥) × (isThere i hs ≡ true)
+known-is i hs e = go (eqb i 0) refl (isThere i hs) refl e
+  where
+    go : (t : Bool) → eqb i 0 ≡ t → (u : Bool) → isThere i hs ≡ u → (t || not u) ≡ false → ((i ≡ 0) → ⊥) × (isThere i hs ≡ true)
+    go false p true q e = (eqb-false i 0 p, q)
+    go false p false q e = absurd (true≢false e)
+    go true p u q e = absurd (true≢false e)
+
+pub is-known : (i : ℕ) (hs : List Head) → (i ≡ 0 → ⊥) → isThere i hs ≡ true → unknown i hs ≡ false
+is-known i hs d e = ap (λ (t : Bool). t || not (isThere i hs)) (ne-eqb i 0 d) ∙ ap not e
+
+pub gone : (i : ℕ) → (i ≡ 0 → ⊥) → (hs : List Head) → different hs ≡ true → isThere i (departed i hs) ≡ false
+gone i d [] e = refl
+gone i d (y ∷ ys) e = go (eqb (y .id) i) refl (gone i d ys (and-right (eqb (y .id) 0 || not (isThere (y .id) ys)) (different ys) e))
+  where
+    alone : y .id ≡ i → isThere i ys ≡ false
+    alone q =
+        subst (λ (k : ℕ). isThere k ys ≡ false) q
+        (not-true (isThere (y .id) ys)
+        (sym (ap (λ (t : Bool). t || not (isThere (y .id) ys)) (ne-eqb (y .id) 0 (λ (z : y .id ≡ 0). d (sym q ∙ z)))) ∙ and-left (eqb (y .id) 0 || not (isThere (y .id) ys)) (different ys) e))
+
+    go : (t : Bool) → eqb (y .id) i ≡ t → isThere i (departed i ys) ≡ false → isThere i (set (y ∷ ys) (cond t 0 (suc (placeOf i ys))) free) ≡ false
+    go true q r = there-is i free ys ∙ ap (λ (t : Bool). t || isThere i ys) (ne-eqb 0 i (λ (z : 0 ≡ i). d (sym z))) ∙ alone (eqb-true (y .id) i q)
+    go false q r = there-is i y (departed i ys) ∙ ap (λ (t : Bool). t || isThere i (departed i ys)) q ∙ r
+
+pub free-none : (i n : ℕ) → (i ≡ 0 → ⊥) → isThere i (replicate n free) ≡ false
+free-none i zero d = refl
+free-none i (suc n) d = there-is i free (replicate n free) ∙ ap (λ (t : Bool). t || isThere i (replicate n free)) (ne-eqb 0 i (λ (z : 0 ≡ i). d (sym z))) ∙ free-none i n d
+
+-- COHERENCE, and that of a new list
+
+pub fits-different : (hs : List Head) → fits hs ≡ true → different hs ≡ true
+fits-different hs e =
+    and-right (slotsFit hs) (different hs)
+    (and-right (leb (length hs) 64) (slotsFit hs && different hs) (and-right (leb 1 (length hs)) (leb (length hs) 64 && (slotsFit hs && different hs)) e))
 
 pub fits-free : (n : ℕ) → 1 ≤ n → n ≤ 64 → fits (replicate n free) ≡ true
 fits-free n p q =

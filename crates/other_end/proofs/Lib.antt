@@ -12,5 +12,9 @@ pub mod Exchange
 pub mod Round
 pub mod OneByOne
 pub mod Rounds
+pub mod Listed
+pub mod Acked
+pub mod Sends
+pub mod AsCalled
 pub mod Demand3
 pub mod Needed

@@ -3,12 +3,12 @@ use Prim.Native.Nat.{ℕ, suc, _+_, _-_, _≤_, max}
 use mathlib.Core.Path.{_≡_, refl, sym, _∙_}
 use mathlib.Core.Bool.{Bool, true, false, not, cond, _&&_, false≢true}
 use mathlib.Core.Logic.{_⊎_, inl, inr}
-use mathlib.Core.List.{List, [], _∷_}
-use lib.Dec.{ltb, leb, eqb}
+use mathlib.Core.List.{List}
+use lib.Dec.{leb, eqb}
 use lib.ListN.{length}
 use native.Mathlib.Omega.{arith}
 use borrow.Author.Tests.{ltb-true, ltb-false, leb-true, eqb-true, le-leb}
-use Rattle.sets.specs.Sets.{has, From, insert, only, between, smallest, largest}
+use Rattle.sets.specs.Sets.{has, From, insert, only, between, smallest}
 use Rattle.sets.proofs.Bools.{or-false, and-left, and-right, and-both}
 use Rattle.sets.proofs.Has.{has-insert, has-union, has-only, has-between, From-weak, From-insert, From-union, From-only, From-raise}
 use Rattle.sets.proofs.Smallest.{From-smallest, From-largest, has-take-sub, has-drop-sub}

@@ -5,7 +5,7 @@ use mathlib.Core.Bool.{Bool, true, false, cond}
 use mathlib.Core.Logic.{_⊎_, inl, inr}
 use mathlib.Core.List.{List, [], _∷_, _++_}
 use mathlib.Core.Option.{Option, none, some}
-use lib.Dec.{ltb, eqb}
+use lib.Dec.{eqb}
 use native.Mathlib.Omega.{arith}
 use native.Mathlib.Nat.{zero-mul, suc-mul, div-lt-iff-lt-mul}
 use borrow.Author.Tests.{eqb-true, eqb-false, ne-eqb}

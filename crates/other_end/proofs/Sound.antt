@@ -5,12 +5,13 @@ use mathlib.Core.Bool.{Bool, true, false, not, cond, _&&_, _||_, false≢true}
 use mathlib.Core.Logic.{_⊎_, inl, inr}
 use mathlib.Core.List.{List, [], _∷_}
 use mathlib.Core.Option.{Option, none, some}
-use lib.Dec.{ltb, leb, eqb}
+use lib.Dec.{leb, eqb}
+use lib.ListN.{replicate}
 use native.Mathlib.Omega.{arith}
 use borrow.Author.Tests.{leb-true, eqb-true, eqb-false, eq-eqb, ne-eqb, le-leb, le-ltb, ltb-false, not-true, not-false}
 use Rattle.sets.specs.Sets.{has, From}
 use Rattle.sets.proofs.Bools.{or-right, and-left, and-right, and-both, clash}
-use Rattle.numbers.specs.Number.{topNumber, rankOf}
+use Rattle.numbers.specs.Number.{rankOf}
 use Rattle.numbers.specs.Refusals.{answerOf, isDone}
 use Rattle.numbers.specs.declared.answer.Rows.{Rows}
 use Rattle.numbers.proofs.Refused.{Clear}
@@ -29,8 +30,8 @@ use Rattle.writer_send_buffer.proofs.Window.{no-trim-with-readers}
 use Rattle.other_end.specs.Model.{gotData, gotGap, gotBeat, base, ackNack}
 use Rattle.other_end.specs.Calls.{Call, result, callRows}
 use Rattle.other_end.specs.System.{Line, Body, sample, gap, beat, ack, Msg, State, Event, match, depart, write, sentTo, evictTo, call, heartbeat, send, reply, deliver, find, upd, dropped, nth, headOf, onServer, onModel, withLines, withFlow, post, tried, matchRows, departRows, newcomer, joined, left, ackRows, ackedHeads, acknowledges, called, writeRows, sentRows, evictRows, wrote, evicts, arrive, arrives, sendFirst, sendTo, beatTo, replyFrom, step, run, start}
-use Rattle.other_end.proofs.Found.{none-some, none-msg, some-line, some-msg, find-id, find-upd, find-map, find-left}
-use Rattle.other_end.proofs.Heads.{there-other, head-other, set-own, fits-free, frontier-at, Low, low-set, low-at, low-more, low-free, frontier-low}
+use Rattle.other_end.proofs.Found.{none-some, none-msg, some-line, some-msg, find-id, find-upd, find-map, find-stays, find-left, find-kept, find-mapped, Apart, apart-upd, apart-map, apart-dropped}
+use Rattle.other_end.proofs.Heads.{there-other, head-other, set-own, known-is, is-known, gone, free-none, fits-different, fits-free, frontier-at, Low, low-set, low-at, low-more, low-free, frontier-low}
 use Rattle.other_end.proofs.Records.{within-fresh}
 use Rattle.other_end.proofs.Calls.{done-clear, both-false, call-acked}
 use Rattle.other_end.proofs.Fine.{Early, Trusted, Sane, Good, Fine, sane-more, base-last, fine-data, fine-gap, fine-beat, fine-sent, fine-call, fine-ack, fine-notified, fine-flow, fine-post}
@@ -50,6 +51,8 @@ pub record Sound (s : State) : Type 0 where
   pub ids : (i : ℕ) (l : Line) → find i (s .lines) ≡ some l → has (s .used) i ≡ true
   pub tags : (k : ℕ) (m : Msg) → nth (s .net) k ≡ some m → has (s .used) (m .line) ≡ true
   pub sane : (k : ℕ) (m : Msg) → nth (s .net) k ≡ some m → Sane (s .flow .last) (m .body)
+  pub known : (i : ℕ) → unknown i (s .heads) ≡ false → (l : Line) × (find i (s .lines) ≡ some l)
+  pub apart : Apart (s .lines)
 
 pub sound-tried : (r : Rows) (x y : State) → Sound x → (isDone (answerOf r) ≡ true → Sound y) → Sound (tried r x y)
 sound-tried r x y p q = go (isDone (answerOf r)) refl
@@ -88,6 +91,8 @@ module _ (s : State) (h : Sound s) where
         ids = λ j l′ e. let w = find-upd i j g ids (s .lines) l′ e in h .ids j (w .0) (w .1);
         tags = h .tags;
         sane = h .sane;
+        known = λ j e. let w = h .known j e in find-kept i j g ids (s .lines) (w .0) (w .1);
+        apart = apart-upd i g ids (s .lines) (h .apart);
       }
     where
       ids : (l : Line) → g l .id ≡ l .id
@@ -112,6 +117,8 @@ module _ (s : State) (h : Sound s) where
         ids = h .ids;
         tags = tagged;
         sane = saner;
+        known = h .known;
+        apart = h .apart;
       }
     where
       tagged : (k : ℕ) (m : Msg) → nth (record { line = i; body = b } ∷ s .net) k ≡ some m → has (s .used) (m .line) ≡ true
@@ -124,7 +131,7 @@ module _ (s : State) (h : Sound s) where
 
   -- THE READERS
 
-  sound-joined : (i : ℕ) (r : Bool) (m : ℕ) → isDone (answerOf (matchRows i m s)) ≡ true → Sound (joined i r m s)
+  pub sound-joined : (i : ℕ) (r : Bool) (m : ℕ) → isDone (answerOf (matchRows i m s)) ≡ true → Sound (joined i r m s)
   sound-joined i r m d =
       record {
         lines = λ j l e. each j l (eqb j i) refl e (stands j l e);
@@ -135,6 +142,8 @@ module _ (s : State) (h : Sound s) where
         ids = λ j l e. known j l (eqb j i) refl e;
         tags = λ k p e. or-right (eqb i (p .line)) (has (s .used) (p .line)) (h .tags k p e);
         sane = h .sane;
+        known = λ j e. known-of j (eqb j i) refl (known-is j (matched i r (s .heads)) e);
+        apart = (fresh-id (find i (s .lines)) refl, h .apart);
       }
     where
       c : Clear (matchRows i m s)
@@ -183,6 +192,17 @@ module _ (s : State) (h : Sound s) where
               let b : i ≡ j → ⊥ = λ (z : i ≡ j). eqb-false j i q (sym z) in
               record { some-id = o .some-id; there = there-other 0 j x a b (s .heads) ∙ o .there; head = head-other 0 j x a b (s .heads) ∙ o .head }
 
+      fresh-id : (o : Option Line) → find i (s .lines) ≡ o → o ≡ none
+      fresh-id none e = refl
+      fresh-id (some l) e = clash (isThere i (s .heads)) (h .held i l e .there) absent
+
+      known-of : (j : ℕ) (t : Bool) → eqb j i ≡ t → ((j ≡ 0) → ⊥) × (isThere j (matched i r (s .heads)) ≡ true) → (l : Line) × (cond t (some new) (find j (s .lines)) ≡ some l)
+      known-of j true q k = (new, refl)
+      known-of j false q k =
+          let a : 0 ≡ j → ⊥ = λ (z : 0 ≡ j). k .0 (sym z) in
+          let b : i ≡ j → ⊥ = λ (z : i ≡ j). eqb-false j i q (sym z) in
+          h .known j (is-known j (s .heads) (k .0) (sym (there-other 0 j x a b (s .heads)) ∙ k .1))
+
       each : (j : ℕ) (l : Line) (t : Bool) → eqb j i ≡ t → cond t (some new) (find j (s .lines)) ≡ some l → Held (matched i r (s .heads)) j l → Fine f′ (s .careful) (s .net) l
       each j l false q e o =
           fine-flow (s .flow) (s .careful) (s .net) l (h .lines j l e) f′ (s .careful) refl (λ t. t) (front-stored (s .flow) (matched i r (s .heads)) j l o) (λ t k. h .lines j l e .kept t k .0)
@@ -207,7 +227,7 @@ module _ (s : State) (h : Sound s) where
       known j l true q e = ap (λ (t : Bool). t || has (s .used) j) (eq-eqb i j (sym (eqb-true j i q)))
       known j l false q e = or-right (eqb i j) (has (s .used) j) (h .ids j l e)
 
-  sound-left : (i : ℕ) → Sound (left i s)
+  pub sound-left : (i : ℕ) → Sound (left i s)
   sound-left i =
       record {
         lines = λ j l e. let w = find-left i j (s .lines) l e in fine-flow (s .flow) (s .careful) (s .net) l (h .lines j l (w .1)) f′ (s .careful) refl (λ t. t) (front-stored (s .flow) (departed i (s .heads)) j l (stands j l e)) (λ t k. h .lines j l (w .1) .kept t k .0);
@@ -218,8 +238,19 @@ module _ (s : State) (h : Sound s) where
         ids = λ j l e. h .ids j l (find-left i j (s .lines) l e .1);
         tags = h .tags;
         sane = h .sane;
+        known = λ j e. stay j (eqb i j) refl (known-is j (departed i (s .heads)) e);
+        apart = apart-dropped i (s .lines) (h .apart);
       }
     where
+      stay : (j : ℕ) (t : Bool) → eqb i j ≡ t → ((j ≡ 0) → ⊥) × (isThere j (departed i (s .heads)) ≡ true) → (l : Line) × (find j (dropped i (s .lines)) ≡ some l)
+      stay j true q k =
+          let w : i ≡ j = eqb-true i j q in
+          clash (isThere j (departed i (s .heads))) (k .1) (subst (λ (n : ℕ). isThere j (departed n (s .heads)) ≡ false) (sym w) (gone j (k .0) (s .heads) (fits-different (s .heads) (h .list))))
+      stay j false q k =
+          let d = eqb-false i j q in
+          let w = h .known j (is-known j (s .heads) (k .0) (sym (there-other i j free d (λ (z : 0 ≡ j). k .0 (sym z)) (s .heads)) ∙ k .1)) in
+          (w .0, find-stays i j d (s .lines) ∙ w .1)
+
       f′ : Flow
       f′ = left i s .flow
 
@@ -233,7 +264,7 @@ module _ (s : State) (h : Sound s) where
           let b : 0 ≡ j → ⊥ = λ (z : 0 ≡ j). o .some-id (sym z) in
           record { some-id = o .some-id; there = there-other i j free (w .0) b (s .heads) ∙ o .there; head = head-other i j free (w .0) b (s .heads) ∙ o .head }
 
-  sound-ack : (i : ℕ) (z : NumberSet) → ((l : Line) (j : ℕ) → find j (s .lines) ≡ some l → i ≡ l .id → l .anew ≡ true → z .base ≤ base (l .model))
+  pub sound-ack : (i : ℕ) (z : NumberSet) → ((l : Line) (j : ℕ) → find j (s .lines) ≡ some l → i ≡ l .id → l .anew ≡ true → z .base ≤ base (l .model))
       → isDone (answerOf (ackRows i z s)) ≡ true → Sound (acknowledges i z s)
   sound-ack i z g d =
       record {
@@ -245,6 +276,8 @@ module _ (s : State) (h : Sound s) where
         ids = λ j l′ e. let w = find-upd i j up (λ l. refl) (s .lines) l′ e in h .ids j (w .0) (w .1);
         tags = h .tags;
         sane = h .sane;
+        known = λ j e. let w = knew j (eqb i j) refl (known-is j (ackedHeads i z s) e) in find-kept i j up (λ l. refl) (s .lines) (w .0) (w .1);
+        apart = apart-upd i up (λ l. refl) (s .lines) (h .apart);
       }
     where
       up : Line → Line
@@ -273,6 +306,10 @@ module _ (s : State) (h : Sound s) where
 
       low′ : Low (s .flow .last) (ackedHeads i z s)
       low′ = low-set (s .flow .last) (s .heads) (placeOf i (s .heads)) x (omega (arith, near, low-at (s .flow .last) (s .heads) (placeOf i (s .heads)) (h .low))) (h .low)
+
+      knew : (j : ℕ) (t : Bool) → eqb i j ≡ t → ((j ≡ 0) → ⊥) × (isThere j (ackedHeads i z s) ≡ true) → (l : Line) × (find j (s .lines) ≡ some l)
+      knew j true q k = h .known j (is-known j (s .heads) (k .0) (subst (λ (n : ℕ). isThere n (s .heads) ≡ true) (eqb-true i j q) here))
+      knew j false q k = let d = eqb-false i j q in h .known j (is-known j (s .heads) (k .0) (sym (there-other i j x d d (s .heads)) ∙ k .1))
 
       own : (isThere i (ackedHeads i z s) ≡ true) × (headAt i (ackedHeads i z s) ≡ x)
       own = set-own i x (s .heads) here (inl refl)
@@ -333,6 +370,8 @@ module _ (s : State) (h : Sound s) where
         ids = h .ids;
         tags = h .tags;
         sane = λ k m e. subst (λ (n : ℕ). Sane n (m .body)) (sym p) (h .sane k m e);
+        known = h .known;
+        apart = h .apart;
       }
 
   sound-evicts : (n : ℕ) → ahead n (s .flow) ≡ false → Sound (evicts n s)
@@ -356,6 +395,8 @@ module _ (s : State) (h : Sound s) where
         ids = λ j l′ e. let w = find-map note j (s .lines) l′ e in h .ids j (w .0) (w .1);
         tags = h .tags;
         sane = λ k m e. sane-more (s .flow .last) (s .flow .last + 1) (omega arith) (m .body) (h .sane k m e);
+        known = λ j e. let w = h .known j e in (onServer note (w .0), find-mapped note j (s .lines) (w .0) (w .1));
+        apart = apart-map note (s .lines) (h .apart);
       }
     where
       note : Reader → Reader
@@ -460,4 +501,6 @@ sound-start k l n a p q =
       ids = λ i l e. none-some e;
       tags = λ k m e. none-msg e;
       sane = λ k m e. none-msg e;
+      known = λ i e. let k = known-is i (replicate n free) e in clash (isThere i (replicate n free)) (k .1) (free-none i n (k .0));
+      apart = tt;
     }

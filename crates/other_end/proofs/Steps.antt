@@ -1,7 +1,7 @@
 -- What the calls on one reader's record, and on the flow record, answer and leave on the forms of the system's records: the system's step, its refusals
 -- included. Assumes nothing.
-use Prim.Native.Nat.{ℕ, suc, _+_, _-_, _≤_, _<_}
-use mathlib.Core.Path.{_≡_, refl, sym, ap, _∙_}
+use Prim.Native.Nat.{ℕ, suc, _+_, _-_, _≤_}
+use mathlib.Core.Path.{_≡_, refl, ap, _∙_}
 use mathlib.Core.Bool.{Bool, true, false, not, cond, _&&_, _||_}
 use mathlib.Core.List.{List, [], _∷_}
 use lib.Dec.{ltb, leb}
@@ -9,15 +9,13 @@ use lib.ListN.{length, take}
 use native.Mathlib.Omega.{arith}
 use borrow.Author.Tests.{le-ltb, le-leb}
 use Rattle.sets.proofs.Bools.{and-left, and-right, and-both}
-use Rattle.numbers.specs.Number.{topNumber, rankOf, negative, validRank, isSample, inRange, numberAt}
+use Rattle.numbers.specs.Number.{topNumber, rankOf, negative, isSample, inRange, numberAt}
 use Rattle.numbers.specs.Refusals.{Row, row, rowsOf, answerOf, isDone, unless, done}
 use Rattle.numbers.specs.Promise.{Left1, Left2}
 use Rattle.numbers.specs.declared.answer.Answer.{Answer}
 use Rattle.numbers.specs.declared.answer.Rows.{Rows}
 use Rattle.numbers.specs.declared.sequence_number.SequenceNumber.{SequenceNumber}
-use Rattle.numbers.specs.declared.fragment_number.FragmentNumber.{FragmentNumber}
 use Rattle.numbers.proofs.Ranks.{rank-back, range-of}
-use Rattle.number_sets.specs.declared.fragment_number_set.FragmentNumberSet.{FragmentNumberSet}
 use Rattle.number_sets.specs.Bits.{NumberSet, members}
 use Rattle.number_sets.specs.Calls.{fragmentSet}
 use Rattle.rising.proofs.Meaning.{room-take}
@@ -31,10 +29,9 @@ use Rattle.rtps_reader_proxy.specs.Unsent.{byUnsent, countUnsent, unsentBy, not
 use Rattle.rtps_reader_proxy.specs.Gaps.{byGaps, countGaps, gapsBy, memberRows, endRows}
 use Rattle.rtps_reader_proxy.specs.Fragments.{fragsOk, byFrags, countFrags, fragsBy, requestRows}
 use Rattle.rtps_reader_proxy.specs.Acks.{byBoth, headAfter, ackRowsOf, ackNackedOf}
-use Rattle.reader_record.specs.Whole.{Picture, form, Valid}
+use Rattle.reader_record.specs.Whole.{form, Valid}
 use Rattle.reader_record.proofs.Whole.{entries-in, form-coherent}
-use Rattle.reader_list.specs.declared.heads.AckedFrontier.{AckedFrontier}
-use Rattle.reader_list.specs.Slots.{frontierOf, frontierAt}
+use Rattle.reader_list.specs.Slots.{frontierAt}
 use Rattle.reader_list.proofs.Smallest.{frontier-back}
 use Rattle.writer_send_buffer.specs.declared.flow.WriterSendBuffer.{WriterSendBuffer}
 use Rattle.writer_send_buffer.specs.declared.flow.Told.{Told}

@@ -4,7 +4,7 @@
 use Prim.Native.Nat.{ℕ}
 use mathlib.Core.Path.{_≡_}
 use mathlib.Core.Bool.{Bool, true, cond}
-use mathlib.Core.List.{List, [], _∷_}
+use mathlib.Core.List.{List, [], _∷_, map}
 use mathlib.Core.Option.{Option, none, some}
 use lib.ListN.{length}
 use Rattle.sets.specs.Sets.{empty}
@@ -24,8 +24,6 @@ use Rattle.rtps_reader_proxy.specs.Fragments.{fragsRequestedOf, fragSentOf}
 use Rattle.reader_record.specs.Whole.{Picture, form, Valid}
 use Rattle.reader_list.specs.declared.heads.ReaderHead.{ReaderHead}
 use Rattle.reader_list.specs.Slots.{listForm}
-use Rattle.writer_send_buffer.specs.declared.flow.Told.{Told}
-use Rattle.writer_send_buffer.specs.declared.flow.WriterSendBuffer.{WriterSendBuffer}
 use Rattle.writer_send_buffer.specs.declared.frontiers.Woken.{Woken}
 use Rattle.writer_send_buffer.specs.Buffer.{form as flowForm, lastOf, sentOf, evictOf}
 use Rattle.writer_send_buffer.specs.Samples.{isCoherentStore}
@@ -85,14 +83,20 @@ abbrev pub Delivers : Option Msg → State → Type 0
 Delivers none s = Unit {0}
 Delivers (some m) s = Arrives (m .line) (m .body) s
 
--- A WRITE, with any coherent store that is lent: the answer, the flow record, and of each reader its head and its unsent numbers
+-- A WRITE, with any coherent store that is lent: the answer, the flow record, the number given, and each reader's head and unsent numbers
 abbrev pub keptForm : Line → Kept
 keptForm l = record { proxy = proxyOf (l .server); unsent = unsentRoom (l .server) }
 
-pub record Writes (o : Written) (a : Answer) (s′ : State) (l′ : Line) : Type 0 where
+pub record Writes (o : Written) (a : Answer) (s′ : State) : Type 0 where
   pub answer : o .writer .result .answer ≡ a
   pub flow : o .writer .first ≡ flowForm (s′ .flow)
-  pub reader : o .readers ≡ keptForm l′ ∷ []
+  pub number : isDone a ≡ true → o .writer .result .number ≡ numberAt (s′ .flow .last)
+  pub readers : o .readers ≡ map keptForm (s′ .lines)
+
+abbrev pub WriteCalled : ℕ → Bool → State → Type 0
+WriteCalled len opted s =
+    (store lens payload : List ℕ) → length payload ≡ len → isCoherentStore (flowForm (s .flow)) (length store) lens ≡ true
+    → Writes (writeStep (flowForm (s .flow)) store lens payload opted (map keptForm (s .lines))) (answerOf (writeRows len opted s)) (step (write len opted) s)
 
 -- THE FRONTIERS AND EVICTION
 abbrev pub SentCalled : SequenceNumber → State → Type 0
@@ -123,6 +127,11 @@ calledOn (sentFrag n f) last p = onFrags p (fragSentOf n f (p .head) (p .samples
 calledOn (markSent n) last p = onUnsent p (markedSentOf n (p .head) (p .unsent))
 calledOn (removeBefore n) last p = onUnsent p (removedBeforeOf n (p .head) (p .unsent))
 
+abbrev pub CallCalled : ℕ → Call → State → Type 0
+CallCalled i c s =
+    (l l′ : Line) → find i (s .lines) ≡ some l → find i (step (call i c) s .lines) ≡ some l′
+    → calledOn c (flowForm (s .flow) .last) (form (l .server)) ≡ record { answer = answerOf (callRows (s .flow .last) c (l .server)); left = form (l′ .server) }
+
 -- THE SEND STEP: 14 where nothing is unsent; else a message goes out, with the number sent as data or as a gap
 pub record Sends (o : Left1 Sent (List ℕ)) (i : ℕ) (r r′ : Reader) (s s′ : State) : Type 0 where
   pub answer : o .result .answer ≡ answerOf (rowsOf (row 14 (empty (r .unsent)) ∷ []))
@@ -131,22 +140,20 @@ pub record Sends (o : Left1 Sent (List ℕ)) (i : ℕ) (r r′ : Reader) (s s′
   pub posted : s′ .net
       ≡ cond (isDone (o .result .answer)) (record { line = i; body = cond (o .result .«data») (sample (rankOf (o .result .number))) (gap (rankOf (o .result .number))) } ∷ s .net) (s .net)
 
+abbrev pub SendCalled : ℕ → State → Type 0
+SendCalled i s =
+    (l l′ : Line) → find i (s .lines) ≡ some l → find i (step (send i) s .lines) ≡ some l′
+    → Sends (sendOf (flowForm (s .flow)) (proxyOf (l .server)) (unsentRoom (l .server))) i (l .server) (l′ .server) s (step (send i) s)
+
 -- EVERY EVENT. A model reader's reply is no call of the writer
 abbrev pub AsCalled : Event → State → Type 0
 AsCalled (match i r m) s = MatchCalled i r m s
 AsCalled (depart i) s = DepartCalled i s
-AsCalled (write len opted) s =
-    (i : ℕ) (l l′ : Line) → find i (s .lines) ≡ some l → find i (step (write len opted) s .lines) ≡ some l′
-    → (store lens payload : List ℕ) → length payload ≡ len → isCoherentStore (flowForm (s .flow)) (length store) lens ≡ true
-    → Writes (writeStep (flowForm (s .flow)) store lens payload opted (keptForm l ∷ [])) (answerOf (writeRows len opted s)) (step (write len opted) s) l′
+AsCalled (write len opted) s = WriteCalled len opted s
 AsCalled (sentTo n) s = SentCalled n s
 AsCalled (evictTo n) s = EvictCalled n s
-AsCalled (call i c) s =
-    (l l′ : Line) → find i (s .lines) ≡ some l → find i (step (call i c) s .lines) ≡ some l′
-    → calledOn c (flowForm (s .flow) .last) (form (l .server)) ≡ record { answer = answerOf (callRows (s .flow .last) c (l .server)); left = form (l′ .server) }
+AsCalled (call i c) s = CallCalled i c s
 AsCalled (heartbeat i) s = lastOf (flowForm (s .flow)) ≡ record { answer = done; number = numberAt (s .flow .last) }
-AsCalled (send i) s =
-    (l l′ : Line) → find i (s .lines) ≡ some l → find i (step (send i) s .lines) ≡ some l′
-    → Sends (sendOf (flowForm (s .flow)) (proxyOf (l .server)) (unsentRoom (l .server))) i (l .server) (l′ .server) s (step (send i) s)
+AsCalled (send i) s = SendCalled i s
 AsCalled (reply i) s = Unit {0}
 AsCalled (deliver k) s = Delivers (nth (s .net) k) s
