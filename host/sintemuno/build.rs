@@ -1,12 +1,14 @@
 //! Finds the proved library, `target/staticlib/libsintemuno.a` of this
-//! repository, and links it. `rt staticlib sintemuno` makes it, and is quick
-//! where the crates are proved already. SINTEMUNO_STATICLIB names another
-//! folder that has the archive; nothing is made then.
+//! repository, and links it. Where it isn't there, or a crate has changed since,
+//! `rt staticlib sintemuno` makes it: half a minute if the crates are proved
+//! already. SINTEMUNO_STATICLIB names another folder that has the archive;
+//! nothing is made then.
 
 use std::{
-    env,
+    env, fs, io,
     path::{Path, PathBuf},
     process::{exit, Command},
+    time::SystemTime,
 };
 
 const ARCHIVE: &str = "libsintemuno.a";
@@ -37,10 +39,15 @@ fn main() {
 
 /// The folder of the archive as this repository makes it.
 fn made(root: &Path) -> PathBuf {
-    for source in ["crates", "crates.txt"] {
-        println!("cargo:rerun-if-changed={}", root.join(source).display());
-    }
     let folder = root.join("target/staticlib");
+    let archive = folder.join(ARCHIVE);
+    let sources = [root.join("crates"), root.join("crates.txt")];
+    for source in &sources {
+        println!("cargo:rerun-if-changed={}", source.display());
+    }
+    if is_newer(&archive, &sources).unwrap_or(false) {
+        return folder;
+    }
     let made = Command::new("rt")
         .args(["staticlib", "sintemuno"])
         .current_dir(root)
@@ -52,16 +59,36 @@ fn made(root: &Path) -> PathBuf {
             eprint!("{}", String::from_utf8_lossy(&output.stderr));
             give_up("rt staticlib sintemuno didn't make the library");
         }
-        Err(_) if folder.join(ARCHIVE).is_file() => {
-            println!("cargo:warning=no rt on PATH: the library is linked as it was last made");
-        }
         Err(_) => give_up(
-            "no rt on PATH, and the library isn't made yet. The Rattle kit has rt, in its folder bin; \
-             where it is, this build makes the library itself (rt staticlib sintemuno). Or let \
-             SINTEMUNO_STATICLIB name a folder that has libsintemuno.a",
+            "no rt on PATH, and the library isn't made yet or a crate has changed since. The Rattle kit \
+             has rt, in its folder bin; where it is, this build makes the library itself (rt staticlib \
+             sintemuno). Or let SINTEMUNO_STATICLIB name a folder that has libsintemuno.a",
         ),
     }
     folder
+}
+
+/// Whether the archive is there and no source was changed after it.
+fn is_newer(archive: &Path, sources: &[PathBuf]) -> io::Result<bool> {
+    let made = fs::metadata(archive)?.modified()?;
+    for source in sources {
+        if changed(source)? > made {
+            return Ok(false);
+        }
+    }
+    Ok(true)
+}
+
+/// When a file, or the last of a folder's, was changed.
+fn changed(source: &Path) -> io::Result<SystemTime> {
+    let about = fs::metadata(source)?;
+    let mut last = about.modified()?;
+    if about.is_dir() {
+        for entry in fs::read_dir(source)? {
+            last = last.max(changed(&entry?.path())?);
+        }
+    }
+    Ok(last)
 }
 
 fn give_up(why: &str) -> ! {
