@@ -241,13 +241,13 @@ sintemuno_front sintemuno_list_frontier(const sintemuno_reader_head *list, size_
 sintemuno_found sintemuno_list_matched_reader_lookup(const sintemuno_reader_head *list, size_t list_len, uint64_t id);
 
 /* A match: the first free slot takes the reader, with acked 0. 13, 1, 11, 8. */
-sintemuno_answer sintemuno_list_matched_reader_add(sintemuno_reader_head *list, size_t list_len, sintemuno_match match);
+sintemuno_answer sintemuno_list_matched_reader_add(sintemuno_reader_head *list, size_t list_len, sintemuno_match m);
 
 /* A departure: the reader's slot is free again. 1, 11. */
 sintemuno_answer sintemuno_list_matched_reader_remove(sintemuno_reader_head *list, size_t list_len, uint64_t id);
 
 /* One reader's acked is set. 1; 2 for a negative one; 11. */
-sintemuno_answer sintemuno_list_set_acked(sintemuno_reader_head *list, size_t list_len, sintemuno_acked acked);
+sintemuno_answer sintemuno_list_set_acked(sintemuno_reader_head *list, size_t list_len, sintemuno_acked a);
 
 /* ==== the send step ==== */
 
