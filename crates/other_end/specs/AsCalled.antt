@@ -6,7 +6,7 @@ use mathlib.Core.Path.{_≡_}
 use mathlib.Core.Bool.{Bool, true, cond}
 use mathlib.Core.List.{List, [], _∷_, map}
 use mathlib.Core.Option.{Option, none, some}
-use lib.ListN.{length}
+use lib.ListN.{length, replicate}
 use Rattle.sets.specs.Sets.{empty}
 use Rattle.numbers.specs.Number.{rankOf, numberAt}
 use Rattle.numbers.specs.Refusals.{row, rowsOf, answerOf, done, isDone}
@@ -23,9 +23,11 @@ use Rattle.rtps_reader_proxy.specs.Gaps.{gapInsertedOf, gapUpToOf}
 use Rattle.rtps_reader_proxy.specs.Fragments.{fragsRequestedOf, fragSentOf}
 use Rattle.reader_record.specs.Whole.{Picture, form, Valid}
 use Rattle.reader_list.specs.declared.heads.ReaderHead.{ReaderHead}
-use Rattle.reader_list.specs.Slots.{listForm}
+use Rattle.reader_list.specs.Slots.{listForm, freeSlot}
+use Rattle.writer_send_buffer.specs.declared.limits.Kind.{Kind}
+use Rattle.writer_send_buffer.specs.declared.limits.Limits.{Limits}
 use Rattle.writer_send_buffer.specs.declared.frontiers.Woken.{Woken}
-use Rattle.writer_send_buffer.specs.Buffer.{form as flowForm, lastOf, sentOf, evictOf}
+use Rattle.writer_send_buffer.specs.Buffer.{form as flowForm, newOf as newWriterOf, lastOf, sentOf, evictOf}
 use Rattle.writer_send_buffer.specs.Samples.{isCoherentStore}
 use Rattle.writer_steps.specs.declared.acks.AckStep.{AckStep}
 use Rattle.writer_steps.specs.declared.send.Sent.{Sent}
@@ -34,7 +36,12 @@ use Rattle.writer_steps.specs.Acks.{ackStep}
 use Rattle.writer_steps.specs.Send.{sendOf}
 use Rattle.writer_steps.specs.Write.{Kept, Written, writeStep}
 use Rattle.other_end.specs.Calls.{Call, gapAt, gapTo, askFrags, sentFrag, markSent, removeBefore, callRows}
-use Rattle.other_end.specs.System.{Line, Body, sample, gap, beat, ack, Msg, State, Event, match, depart, write, sentTo, evictTo, call, heartbeat, send, reply, deliver, find, nth, matchRows, departRows, newcomer, ackRows, writeRows, sentRows, evictRows, arrive, step}
+use Rattle.other_end.specs.System.{Line, Body, sample, gap, beat, ack, Msg, State, Event, match, depart, write, sentTo, evictTo, call, heartbeat, send, reply, deliver, find, nth, matchRows, departRows, newcomer, ackRows, writeRows, sentRows, evictRows, arrive, step, start}
+
+-- A NEW WRITER and its list: what `new` gives, and slots that are all free
+pub record Starts (k : Kind) (l : Limits) (slots : ℕ) : Type 0 where
+  pub flow : newWriterOf k l ≡ record { answer = done; flow = flowForm (start k l slots .flow) }
+  pub list : listForm (start k l slots .heads) ≡ replicate slots freeSlot
 
 -- A MATCH AND A DEPARTURE: the answer, the flow record with the frontier stored, and the list
 pub record Lists (o : Left1 Woken (List ReaderHead)) (a : Answer) (s′ : State) : Type 0 where
