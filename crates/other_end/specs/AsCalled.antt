@@ -43,6 +43,10 @@ pub record Starts (k : Kind) (l : Limits) (slots : ℕ) : Type 0 where
   pub flow : newWriterOf k l ≡ record { answer = done; flow = flowForm (start k l slots .flow) }
   pub list : listForm (start k l slots .heads) ≡ replicate slots freeSlot
 
+-- the reader i is there in the state s′, as a line of which P holds
+abbrev pub Then : ℕ → State → (Line → Type 0) → Type 0
+Then i s′ P = (l′ : Line) × (find i (s′ .lines) ≡ some l′) × P l′
+
 -- A MATCH AND A DEPARTURE: the answer, the flow record with the frontier stored, and the list
 pub record Lists (o : Left1 Woken (List ReaderHead)) (a : Answer) (s′ : State) : Type 0 where
   pub answer : o .result .told .answer ≡ a
@@ -77,7 +81,7 @@ ackOn i z s r = ackStep (listForm (s .heads)) (flowForm (s .flow)) i (setForm z)
 -- from a reader that is there; and from one that isn't, whatever record is lent: nothing changes
 abbrev pub AckCalled : ℕ → NumberSet → State → Type 0
 AckCalled i z s =
-    ((l l′ : Line) → find i (s .lines) ≡ some l → find i (arrive i (ack z) s .lines) ≡ some l′ → Acks (ackOn i z s (l .server)) (answerOf (ackRows i z s)) (arrive i (ack z) s) (l′ .server))
+    ((l : Line) → find i (s .lines) ≡ some l → Then i (arrive i (ack z) s) (λ l′. Acks (ackOn i z s (l .server)) (answerOf (ackRows i z s)) (arrive i (ack z) s) (l′ .server)))
     × (find i (s .lines) ≡ none → (r : Reader) → Valid r → Acks (ackOn i z s r) (answerOf (ackRows i z s)) s r × (arrive i (ack z) s ≡ s))
 
 abbrev pub Arrives : ℕ → Body → State → Type 0
@@ -136,8 +140,8 @@ calledOn (removeBefore n) last p = onUnsent p (removedBeforeOf n (p .head) (p .u
 
 abbrev pub CallCalled : ℕ → Call → State → Type 0
 CallCalled i c s =
-    (l l′ : Line) → find i (s .lines) ≡ some l → find i (step (call i c) s .lines) ≡ some l′
-    → calledOn c (flowForm (s .flow) .last) (form (l .server)) ≡ record { answer = answerOf (callRows (s .flow .last) c (l .server)); left = form (l′ .server) }
+    (l : Line) → find i (s .lines) ≡ some l
+    → Then i (step (call i c) s) (λ l′. calledOn c (flowForm (s .flow) .last) (form (l .server)) ≡ record { answer = answerOf (callRows (s .flow .last) c (l .server)); left = form (l′ .server) })
 
 -- THE SEND STEP: 14 where nothing is unsent; else a message goes out, with the number sent as data or as a gap
 pub record Sends (o : Left1 Sent (List ℕ)) (i : ℕ) (r r′ : Reader) (s s′ : State) : Type 0 where
@@ -149,8 +153,8 @@ pub record Sends (o : Left1 Sent (List ℕ)) (i : ℕ) (r r′ : Reader) (s s′
 
 abbrev pub SendCalled : ℕ → State → Type 0
 SendCalled i s =
-    (l l′ : Line) → find i (s .lines) ≡ some l → find i (step (send i) s .lines) ≡ some l′
-    → Sends (sendOf (flowForm (s .flow)) (proxyOf (l .server)) (unsentRoom (l .server))) i (l .server) (l′ .server) s (step (send i) s)
+    (l : Line) → find i (s .lines) ≡ some l
+    → Then i (step (send i) s) (λ l′. Sends (sendOf (flowForm (s .flow)) (proxyOf (l .server)) (unsentRoom (l .server))) i (l .server) (l′ .server) s (step (send i) s))
 
 -- EVERY EVENT. A model reader's reply is no call of the writer
 abbrev pub AsCalled : Event → State → Type 0
