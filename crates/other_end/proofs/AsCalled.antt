@@ -1,12 +1,12 @@
 -- Every event of the writer is what its calls do, on the forms of the system's records. Assumes nothing.
-use Prim.Native.Nat.{ℕ, suc, _+_, _≤_}
+use Prim.Native.Nat.{ℕ, zero, suc, _+_, _≤_, max}
 use mathlib.Core.Path.{_≡_, refl, sym, ap, subst, _∙_}
-use mathlib.Core.Bool.{Bool, true, false, cond}
+use mathlib.Core.Bool.{Bool, true, false, not, cond}
 use mathlib.Core.List.{List, [], _∷_, map}
 use mathlib.Core.Option.{Option, none, some}
 use native.Mathlib.Omega.{arith}
 use lib.Dec.{ltb}
-use lib.ListN.{length, set}
+use lib.ListN.{length, set, replicate}
 use borrow.Author.Tests.{eqb-true, eqb-false}
 use Rattle.sets.proofs.Bools.{clash}
 use Rattle.numbers.specs.Number.{topNumber, rankOf, numberAt}
@@ -20,19 +20,25 @@ use Rattle.number_sets.specs.Bits.{NumberSet, members}
 use Rattle.rtps_reader_proxy.specs.declared.proxy.Changed.{Changed}
 use Rattle.rtps_reader_proxy.specs.Reader.{Reader, acknowledge, notified}
 use Rattle.reader_record.specs.Whole.{form, Valid}
-use Rattle.reader_list.specs.Slots.{unknown}
+use Rattle.reader_list.specs.declared.heads.ReaderHead.{ReaderHead}
+use Rattle.reader_list.specs.Readers.{free}
+use Rattle.reader_list.specs.Slots.{unknown, listForm, freeSlot}
+use Rattle.writer_send_buffer.specs.declared.limits.Kind.{Kind}
+use Rattle.writer_send_buffer.specs.declared.limits.Limits.{Limits}
+use Rattle.writer_send_buffer.specs.declared.flow.Moved.{Moved}
 use Rattle.writer_send_buffer.specs.declared.flow.Told.{Told}
 use Rattle.writer_send_buffer.specs.declared.flow.Numbered.{Numbered}
 use Rattle.writer_send_buffer.specs.declared.flow.WriterSendBuffer.{WriterSendBuffer}
-use Rattle.writer_send_buffer.specs.Flow.{Flow, admitRows, admitted, ahead, unwritten, raised, evicted}
-use Rattle.writer_send_buffer.specs.Buffer.{form as flowForm, ranged, noNumber, toldNo, lastOf}
+use Rattle.writer_send_buffer.proofs.Sound.{Allowed, allowed-is}
+use Rattle.writer_send_buffer.specs.Flow.{Flow, allowed, counted, blank, admitRows, admitted, ahead, unwritten, raised, evicted}
+use Rattle.writer_send_buffer.specs.Buffer.{form as flowForm, limited, zeroed, ranged, noNumber, toldNo, lastOf}
 use Rattle.writer_send_buffer.specs.Samples.{isCoherentStore, startOf, slotOf, over, admitOf}
 use Rattle.writer_send_buffer.proofs.Steps.{view-form, form-coherent as flow-coherent}
 use Rattle.writer_steps.specs.Write.{told}
 use Rattle.other_end.specs.Calls.{Call, result, callRows}
 use Rattle.other_end.specs.System.{Line, Body, sample, gap, beat, ack, Msg, State, Event, match, depart, write, sentTo, evictTo, call, heartbeat, send, reply, deliver, find, upd, nth, onServer, withLines, withFlow, tried, ackRows, acknowledges, called, writeRows, sentRows, evictRows, wrote, evicts, arrive, step}
-use Rattle.other_end.specs.AsCalled.{Acks, ackOn, Arrives, Delivers, keptForm, Writes, WriteCalled, SentCalled, EvictCalled, Outcome, CallCalled, AsCalled}
-use Rattle.other_end.proofs.Found.{none-some, some-line, find-same, All, found-all}
+use Rattle.other_end.specs.AsCalled.{Starts, Then, calledOn, Acks, ackOn, Arrives, Delivers, keptForm, Writes, WriteCalled, SentCalled, EvictCalled, Outcome, CallCalled, AsCalled}
+use Rattle.other_end.proofs.Found.{none-some, find-same, All, found-all}
 use Rattle.other_end.proofs.Calls.{done-clear}
 use Rattle.other_end.proofs.Fine.{Sane}
 use Rattle.other_end.proofs.Steps.{does-notify, does-call, does-sent, does-evict}
@@ -41,20 +47,48 @@ use Rattle.other_end.proofs.Listed.{match-called, depart-called}
 use Rattle.other_end.proofs.Acked.{acks-so}
 use Rattle.other_end.proofs.Sends.{send-called}
 
+-- A NEW WRITER: no limit of those allowed is 0
+pub starts : (k : Kind) (l : Limits) (slots : ℕ) → allowed l ≡ true → Starts k l slots
+starts k l slots e = record { flow = ap by counts ∙ ap (λ (t : Bool). made t l) e; list = frees slots }
+  where
+    made : Bool → Limits → Moved
+    made t m = unless (limited (not t)) (λ a. record { answer = a; flow = zeroed }) (record { answer = done; flow = flowForm (blank k m) })
+
+    by : Limits → Moved
+    by m = made (allowed m) m
+
+    a : Allowed l
+    a = allowed-is l e
+
+    window : max 1 (l .window) ≡ l .window
+    window = omega (arith, a .window-some)
+
+    backlog : max 1 (l .backlog) ≡ l .backlog
+    backlog = omega (arith, a .backlog-some)
+
+    retain : max 1 (l .retain) ≡ l .retain
+    retain = omega (arith, a .retain-some)
+
+    counts : counted l ≡ l
+    counts = λ i. record { window = window i; backlog = backlog i; retain = retain i; slots = l .slots; «slot_bytes» = l .«slot_bytes» }
+
+    frees : (n : ℕ) → listForm (replicate n free) ≡ replicate n freeSlot
+    frees zero = refl
+    frees (suc n) = ap (λ (hs : List ReaderHead). freeSlot ∷ hs) (frees n)
+
 module _ (s : State) (h : Sound s) where
   -- AN ACKNACK
   module _ (i : ℕ) (z : NumberSet) (near : z .base ≤ suc (s .flow .last)) where
-    ack-found : (l l′ : Line) → find i (s .lines) ≡ some l → find i (arrive i (ack z) s .lines) ≡ some l′ → Acks (ackOn i z s (l .server)) (answerOf (ackRows i z s)) (arrive i (ack z) s) (l′ .server)
-    ack-found l l′ e e′ =
-        subst (λ (r′ : Reader). Acks (ackOn i z s (l .server)) (answerOf (ackRows i z s)) (arrive i (ack z) s) r′) (go (isDone (answerOf (ackRows i z s))) e′)
-        (acks-so s h i z (l .server) (h .lines i l e .valid) near (λ _. ap (λ x. x .acked) (h .held i l e .head)))
+    ack-found : (l : Line) → find i (s .lines) ≡ some l → Then i (arrive i (ack z) s) (λ l′. Acks (ackOn i z s (l .server)) (answerOf (ackRows i z s)) (arrive i (ack z) s) (l′ .server))
+    ack-found l e = go (isDone (answerOf (ackRows i z s))) (acks-so s h i z (l .server) (h .lines i l e .valid) near (λ _. ap (λ x. x .acked) (h .held i l e .head)))
       where
         up : Reader → Reader
         up = acknowledge (s .flow .last) (z .base) (members z)
 
-        go : (t : Bool) → find i (cond t (acknowledges i z s) s .lines) ≡ some l′ → cond t (up (l .server)) (l .server) ≡ l′ .server
-        go true q = ap (λ (x : Line). x .server) (some-line (sym (find-same i (onServer up) (λ x. refl) (s .lines) l e) ∙ q))
-        go false q = ap (λ (x : Line). x .server) (some-line (sym e ∙ q))
+        go : (t : Bool) → Acks (ackOn i z s (l .server)) (answerOf (ackRows i z s)) (cond t (acknowledges i z s) s) (cond t (up (l .server)) (l .server))
+            → Then i (cond t (acknowledges i z s) s) (λ l′. Acks (ackOn i z s (l .server)) (answerOf (ackRows i z s)) (cond t (acknowledges i z s) s) (l′ .server))
+        go true a = (onServer up l, find-same i (onServer up) (λ x. refl) (s .lines) l e, a)
+        go false a = (l, e, a)
 
     ack-unknown : find i (s .lines) ≡ none → (r : Reader) → Valid r → Acks (ackOn i z s r) (answerOf (ackRows i z s)) s r × (arrive i (ack z) s ≡ s)
     ack-unknown e r v = go (unknown i (s .heads)) refl
@@ -167,19 +201,22 @@ module _ (s : State) (h : Sound s) where
 
   -- THE OTHER CALLS
   call-called : (i : ℕ) (c : Call) → CallCalled i c s
-  call-called i c l l′ e e′ =
-      does-call (l .server) (h .lines i l e .valid) (s .flow .last) (h .flow .last-most) c
-      ∙ go (isDone (answerOf rows)) refl (subst (λ (o : Option Line). find i (called i c o s .lines) ≡ some l′) e e′)
+  call-called i c l e =
+      subst (λ (o : Option Line). Then i (called i c o s) (λ l′. calledOn c (numberAt (s .flow .last)) (form (l .server)) ≡ record { answer = answerOf rows; left = form (l′ .server) })) (sym e)
+      (go (isDone (answerOf rows)) refl (does-call (l .server) (h .lines i l e .valid) (s .flow .last) (h .flow .last-most) c))
     where
       rows : Rows
       rows = callRows (s .flow .last) c (l .server)
 
-      go : (t : Bool) → isDone (answerOf rows) ≡ t → find i (cond t (withLines (upd i (onServer (result c)) (s .lines)) s) s .lines) ≡ some l′
-          → _≡_ {A = Outcome} (cond t (record { answer = done; left = form (result c (l .server)) }) (record { answer = answerOf rows; left = form (l .server) })) (record { answer = answerOf rows; left = form (l′ .server) })
-      go true d q =
-          ap (λ (a : Answer). record { answer = a; left = form (result c (l .server)) }) (sym (done-is (answerOf rows) (eqb-true (answerOf rows .number) 0 d)))
-          ∙ ap (λ (x : Line). record { answer = answerOf rows; left = form (x .server) }) (some-line (sym (find-same i (onServer (result c)) (λ x. refl) (s .lines) l e) ∙ q))
-      go false d q = ap (λ (x : Line). record { answer = answerOf rows; left = form (x .server) }) (some-line (sym e ∙ q))
+      go : (t : Bool) → isDone (answerOf rows) ≡ t
+          → calledOn c (numberAt (s .flow .last)) (form (l .server)) ≡ cond {A = Outcome} t (record { answer = done; left = form (result c (l .server)) }) (record { answer = answerOf rows; left = form (l .server) })
+          → Then i (cond t (withLines (upd i (onServer (result c)) (s .lines)) s) s) (λ l′. calledOn c (numberAt (s .flow .last)) (form (l .server)) ≡ record { answer = answerOf rows; left = form (l′ .server) })
+      go true d q = (
+        onServer (result c) l,
+        find-same i (onServer (result c)) (λ x. refl) (s .lines) l e,
+        q ∙ ap (λ (a : Answer). record { answer = a; left = form (result c (l .server)) }) (sym (done-is (answerOf rows) (eqb-true (answerOf rows .number) 0 d))),
+      )
+      go false d q = (l, e, q)
 
   -- THE HEARTBEAT'S NUMBER
   beat-called : lastOf (flowForm (s .flow)) ≡ record { answer = done; number = numberAt (s .flow .last) }

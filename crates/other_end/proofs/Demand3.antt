@@ -20,8 +20,9 @@ use Rattle.other_end.proofs.Gaps.{gap-ge, gap-all, gap-not}
 use Rattle.other_end.proofs.Heads.{frontier-low}
 use Rattle.other_end.proofs.Forms.{list-coherent}
 use Rattle.other_end.proofs.Fine.{Fine, base-pos}
-use Rattle.other_end.proofs.Sound.{Sound, sound-run, sound-start}
-use Rattle.other_end.proofs.AsCalled.{as-called}
+use Rattle.other_end.proofs.Sound.{Sound}
+use Rattle.other_end.proofs.Runs.{sound-run, sound-start}
+use Rattle.other_end.proofs.AsCalled.{starts, as-called}
 use Rattle.other_end.proofs.Round.{round-moves}
 use Rattle.other_end.proofs.OneByOne.{one-round}
 use Rattle.other_end.proofs.Rounds.{reached-round, levelled, enough}
@@ -103,5 +104,6 @@ demand-3 =
       level = λ s s′ i r l p d. level s i l p s′ r d;
       always = λ s i l p r. always r s i l p;
       coherent = coherent;
+      starts = starts;
       calls = λ s r e. as-called s (sound s r) e;
     }

@@ -8,6 +8,8 @@ pub mod Forms
 pub mod Steps
 pub mod Fine
 pub mod Sound
+pub mod Joins
+pub mod Runs
 pub mod Exchange
 pub mod Round
 pub mod OneByOne

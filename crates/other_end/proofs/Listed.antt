@@ -32,7 +32,8 @@ use Rattle.other_end.proofs.Heads.{Low, frontier-low}
 use Rattle.other_end.proofs.Calls.{done-clear}
 use Rattle.other_end.proofs.Forms.{list-back, list-set}
 use Rattle.other_end.proofs.Steps.{does-store}
-use Rattle.other_end.proofs.Sound.{Sound, sound-joined, sound-left}
+use Rattle.other_end.proofs.Sound.{Sound}
+use Rattle.other_end.proofs.Joins.{sound-joined, sound-left}
 
 -- the answer of one call beside one that is done
 earlier-done : (r : Rows) → earlier (answerOf r) done ≡ answerOf r

@@ -18,7 +18,8 @@ use Rattle.other_end.specs.Model.{gotData, gotGap}
 use Rattle.other_end.specs.System.{Line, Body, sample, gap, beat, ack, Msg, State, send, deliver, find, upd, nth, onServer, onModel, withLines, post, step, run}
 use Rattle.other_end.specs.Rounds.{opened, sends, unsentOf, drained, cleanRound, Exchange, SettledAt, Received, Round}
 use Rattle.other_end.proofs.Found.{some-line, some-msg, find-same}
-use Rattle.other_end.proofs.Sound.{Sound, sound-run}
+use Rattle.other_end.proofs.Sound.{Sound}
+use Rattle.other_end.proofs.Runs.{sound-run}
 use Rattle.other_end.proofs.Exchange.{At, send-is}
 use Rattle.other_end.proofs.Round.{begun, at-begun, sound-begun}
 

@@ -21,7 +21,8 @@ use Rattle.other_end.specs.Demand3.{Moved}
 use Rattle.other_end.proofs.Gaps.{gap-ge, gap-all, gap-past, has-missing}
 use Rattle.other_end.proofs.Records.{Above, between-in, wanted-rise}
 use Rattle.other_end.proofs.Fine.{Fine, base-last}
-use Rattle.other_end.proofs.Sound.{Sound, sound-run}
+use Rattle.other_end.proofs.Sound.{Sound}
+use Rattle.other_end.proofs.Runs.{sound-run}
 use Rattle.other_end.proofs.Exchange.{At, at-beat, at-ack, Moving, moving-run, moving-start, Drained, moving-drained}
 
 -- THE TWO ACKNACKS

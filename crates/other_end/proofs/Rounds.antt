@@ -25,7 +25,8 @@ use Rattle.other_end.specs.Demand3.{Moved, Reached, roundsFor}
 use Rattle.other_end.proofs.Found.{find-same, find-other, find-stays}
 use Rattle.other_end.proofs.Calls.{done-clear, both-false, call-cap}
 use Rattle.other_end.proofs.Fine.{Sane, base-last, settle-base}
-use Rattle.other_end.proofs.Sound.{Sound, sound-step, sound-run}
+use Rattle.other_end.proofs.Sound.{Sound}
+use Rattle.other_end.proofs.Runs.{sound-step, sound-run}
 use Rattle.other_end.proofs.Round.{round-moves}
 
 -- what the line l may become while nothing is written: it keeps its cap, and knows no less

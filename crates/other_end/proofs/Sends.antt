@@ -3,7 +3,7 @@ use Prim.Native.Nat.{ℕ, _≤_}
 use mathlib.Core.Path.{_≡_, refl, sym, ap, subst, _∙_}
 use mathlib.Core.Bool.{Bool, false, not, cond, _||_}
 use mathlib.Core.List.{List, [], _∷_}
-use mathlib.Core.Option.{Option, some}
+use mathlib.Core.Option.{Option}
 use native.Mathlib.Omega.{arith}
 use lib.Dec.{leb}
 use borrow.Author.Tests.{eq-eqb, le-leb}
@@ -30,9 +30,9 @@ use Rattle.writer_send_buffer.proofs.Steps.{view-form, form-coherent as flow-co
 use Rattle.writer_steps.specs.declared.send.Sent.{Sent}
 use Rattle.writer_steps.specs.Answers.{stepped}
 use Rattle.writer_steps.specs.Send.{firstUnsent, sendOf}
-use Rattle.other_end.specs.System.{Line, sample, gap, State, send, find, onServer, sendFirst, sendTo, step}
-use Rattle.other_end.specs.AsCalled.{Sends, SendCalled}
-use Rattle.other_end.proofs.Found.{some-line, find-same}
+use Rattle.other_end.specs.System.{Line, sample, gap, State, send, onServer, sendFirst, sendTo, step}
+use Rattle.other_end.specs.AsCalled.{Then, Sends, SendCalled}
+use Rattle.other_end.proofs.Found.{find-same}
 use Rattle.other_end.proofs.Steps.{unsent-ok, by-unsent, by-unsent-is}
 use Rattle.other_end.proofs.Sound.{Sound}
 
@@ -84,7 +84,7 @@ module _ (f : Flow) (h : Fits f) (r : Reader) (v : Valid r) where
 
 module _ (s : State) (h : Sound s) (i : ℕ) where
   pub send-called : SendCalled i s
-  send-called l l′ e e′ = go (l .server .unsent) refl (subst (λ (o : Option Line). find i (sendTo i o s .lines) ≡ some l′) e e′) (λ u q. ap (λ (o : Option Line). sendTo i o s) e ∙ ap (λ (w : List ℕ). sendFirst i w s) q)
+  send-called l e = subst (λ (x : State). Then i x (λ l′. Sends o i (l .server) (l′ .server) s x)) (sym (ap (λ (x : Option Line). sendTo i x s) e)) (go (l .server .unsent) refl)
     where
       o : Left1 Sent (List ℕ)
       o = sendOf (flowForm (s .flow)) (proxyOf (l .server)) (unsentRoom (l .server))
@@ -92,25 +92,28 @@ module _ (s : State) (h : Sound s) (i : ℕ) where
       valid : Valid (l .server)
       valid = h .lines i l e .valid
 
-      go : (u : List ℕ) → l .server .unsent ≡ u → find i (sendFirst i (l .server .unsent) s .lines) ≡ some l′ → ((w : List ℕ) → l .server .unsent ≡ w → step (send i) s ≡ sendFirst i w s)
-          → Sends (sendOf (flowForm (s .flow)) (proxyOf (l .server)) (unsentRoom (l .server))) i (l .server) (l′ .server) s (step (send i) s)
-      go [] q f st =
+      answered : List ℕ → Answer
+      answered u = answerOf (rowsOf (row 14 (empty u) ∷ []))
+
+      to : State → Type 0
+      to x = Then i x (λ l′. Sends o i (l .server) (l′ .server) s x)
+
+      go : (u : List ℕ) → l .server .unsent ≡ u → to (sendFirst i (l .server .unsent) s)
+      go [] q =
           let w = sends-none (s .flow) (h .flow) (l .server) valid q in
-          let x : l ≡ l′ = some-line (sym e ∙ subst (λ (v : List ℕ). find i (sendFirst i v s .lines) ≡ some l′) q f) in
-          subst (λ (y : State). Sends o i (l .server) (l′ .server) s y) (sym (st [] q))
-          (subst (λ (y : Line). Sends o i (l .server) (y .server) s s) x
-          (subst (λ (y : Left1 Sent (List ℕ)). Sends y i (l .server) (l .server) s s) (sym w)
-          (record { answer = ap (λ (v : List ℕ). answerOf (rowsOf (row 14 (empty v) ∷ []))) (sym q); head = refl; unsent = refl; posted = refl })))
-      go (n ∷ ns) q f st =
+          subst (λ (u : List ℕ). to (sendFirst i u s)) (sym q)
+          (l, e, subst (λ (y : Left1 Sent (List ℕ)). Sends y i (l .server) (l .server) s s) (sym w) (record { answer = ap answered (sym q); head = refl; unsent = refl; posted = refl }))
+      go (n ∷ ns) q =
           let top : n ≤ s .flow .last = h .lines i l e .within .high n (ap (λ (v : List ℕ). has v n) q ∙ ap (λ (t : Bool). t || has ns n) (eq-eqb n n refl)) in
           let w = sends-one (s .flow) (h .flow) (l .server) valid n ns q (omega (arith, h .flow .last-most)) in
-          let x : onServer (markedSent n) l ≡ l′ = some-line (sym (find-same i (onServer (markedSent n)) (λ y. refl) (s .lines) l e) ∙ subst (λ (v : List ℕ). find i (sendFirst i v s .lines) ≡ some l′) q f) in
-          subst (λ (y : State). Sends o i (l .server) (l′ .server) s y) (sym (st (n ∷ ns) q))
-          (subst (λ (y : Line). Sends o i (l .server) (y .server) s (sendFirst i (n ∷ ns) s)) x
-          (subst (λ (y : Left1 Sent (List ℕ)). Sends y i (l .server) (markedSent n (l .server)) s (sendFirst i (n ∷ ns) s)) (sym w)
-          (record {
-            answer = ap (λ (v : List ℕ). answerOf (rowsOf (row 14 (empty v) ∷ []))) (sym q);
-            head = refl;
-            unsent = refl;
-            posted = ap (λ (k : ℕ). record { line = i; body = cond (retained n (s .flow)) (sample k) (gap k) } ∷ s .net) (sym (rank-back n (omega (arith, h .flow .last-most))));
-          })))
+          subst (λ (u : List ℕ). to (sendFirst i u s)) (sym q) (
+            onServer (markedSent n) l,
+            find-same i (onServer (markedSent n)) (λ y. refl) (s .lines) l e,
+            subst (λ (y : Left1 Sent (List ℕ)). Sends y i (l .server) (markedSent n (l .server)) s (sendFirst i (n ∷ ns) s)) (sym w)
+                (record {
+                  answer = ap answered (sym q);
+                  head = refl;
+                  unsent = refl;
+                  posted = ap (λ (k : ℕ). record { line = i; body = cond (retained n (s .flow)) (sample k) (gap k) } ∷ s .net) (sym (rank-back n (omega (arith, h .flow .last-most))));
+                }),
+          )

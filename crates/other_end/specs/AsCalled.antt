@@ -6,7 +6,7 @@ use mathlib.Core.Path.{_≡_}
 use mathlib.Core.Bool.{Bool, true, cond}
 use mathlib.Core.List.{List, [], _∷_, map}
 use mathlib.Core.Option.{Option, none, some}
-use lib.ListN.{length}
+use lib.ListN.{length, replicate}
 use Rattle.sets.specs.Sets.{empty}
 use Rattle.numbers.specs.Number.{rankOf, numberAt}
 use Rattle.numbers.specs.Refusals.{row, rowsOf, answerOf, done, isDone}
@@ -23,9 +23,11 @@ use Rattle.rtps_reader_proxy.specs.Gaps.{gapInsertedOf, gapUpToOf}
 use Rattle.rtps_reader_proxy.specs.Fragments.{fragsRequestedOf, fragSentOf}
 use Rattle.reader_record.specs.Whole.{Picture, form, Valid}
 use Rattle.reader_list.specs.declared.heads.ReaderHead.{ReaderHead}
-use Rattle.reader_list.specs.Slots.{listForm}
+use Rattle.reader_list.specs.Slots.{listForm, freeSlot}
+use Rattle.writer_send_buffer.specs.declared.limits.Kind.{Kind}
+use Rattle.writer_send_buffer.specs.declared.limits.Limits.{Limits}
 use Rattle.writer_send_buffer.specs.declared.frontiers.Woken.{Woken}
-use Rattle.writer_send_buffer.specs.Buffer.{form as flowForm, lastOf, sentOf, evictOf}
+use Rattle.writer_send_buffer.specs.Buffer.{form as flowForm, newOf as newWriterOf, lastOf, sentOf, evictOf}
 use Rattle.writer_send_buffer.specs.Samples.{isCoherentStore}
 use Rattle.writer_steps.specs.declared.acks.AckStep.{AckStep}
 use Rattle.writer_steps.specs.declared.send.Sent.{Sent}
@@ -34,7 +36,16 @@ use Rattle.writer_steps.specs.Acks.{ackStep}
 use Rattle.writer_steps.specs.Send.{sendOf}
 use Rattle.writer_steps.specs.Write.{Kept, Written, writeStep}
 use Rattle.other_end.specs.Calls.{Call, gapAt, gapTo, askFrags, sentFrag, markSent, removeBefore, callRows}
-use Rattle.other_end.specs.System.{Line, Body, sample, gap, beat, ack, Msg, State, Event, match, depart, write, sentTo, evictTo, call, heartbeat, send, reply, deliver, find, nth, matchRows, departRows, newcomer, ackRows, writeRows, sentRows, evictRows, arrive, step}
+use Rattle.other_end.specs.System.{Line, Body, sample, gap, beat, ack, Msg, State, Event, match, depart, write, sentTo, evictTo, call, heartbeat, send, reply, deliver, find, nth, matchRows, departRows, newcomer, ackRows, writeRows, sentRows, evictRows, arrive, step, start}
+
+-- A NEW WRITER and its list: what `new` gives, and slots that are all free
+pub record Starts (k : Kind) (l : Limits) (slots : ℕ) : Type 0 where
+  pub flow : newWriterOf k l ≡ record { answer = done; flow = flowForm (start k l slots .flow) }
+  pub list : listForm (start k l slots .heads) ≡ replicate slots freeSlot
+
+-- the reader i is there in the state s′, as a line of which P holds
+abbrev pub Then : ℕ → State → (Line → Type 0) → Type 0
+Then i s′ P = (l′ : Line) × (find i (s′ .lines) ≡ some l′) × P l′
 
 -- A MATCH AND A DEPARTURE: the answer, the flow record with the frontier stored, and the list
 pub record Lists (o : Left1 Woken (List ReaderHead)) (a : Answer) (s′ : State) : Type 0 where
@@ -70,7 +81,7 @@ ackOn i z s r = ackStep (listForm (s .heads)) (flowForm (s .flow)) i (setForm z)
 -- from a reader that is there; and from one that isn't, whatever record is lent: nothing changes
 abbrev pub AckCalled : ℕ → NumberSet → State → Type 0
 AckCalled i z s =
-    ((l l′ : Line) → find i (s .lines) ≡ some l → find i (arrive i (ack z) s .lines) ≡ some l′ → Acks (ackOn i z s (l .server)) (answerOf (ackRows i z s)) (arrive i (ack z) s) (l′ .server))
+    ((l : Line) → find i (s .lines) ≡ some l → Then i (arrive i (ack z) s) (λ l′. Acks (ackOn i z s (l .server)) (answerOf (ackRows i z s)) (arrive i (ack z) s) (l′ .server)))
     × (find i (s .lines) ≡ none → (r : Reader) → Valid r → Acks (ackOn i z s r) (answerOf (ackRows i z s)) s r × (arrive i (ack z) s ≡ s))
 
 abbrev pub Arrives : ℕ → Body → State → Type 0
@@ -129,8 +140,8 @@ calledOn (removeBefore n) last p = onUnsent p (removedBeforeOf n (p .head) (p .u
 
 abbrev pub CallCalled : ℕ → Call → State → Type 0
 CallCalled i c s =
-    (l l′ : Line) → find i (s .lines) ≡ some l → find i (step (call i c) s .lines) ≡ some l′
-    → calledOn c (flowForm (s .flow) .last) (form (l .server)) ≡ record { answer = answerOf (callRows (s .flow .last) c (l .server)); left = form (l′ .server) }
+    (l : Line) → find i (s .lines) ≡ some l
+    → Then i (step (call i c) s) (λ l′. calledOn c (flowForm (s .flow) .last) (form (l .server)) ≡ record { answer = answerOf (callRows (s .flow .last) c (l .server)); left = form (l′ .server) })
 
 -- THE SEND STEP: 14 where nothing is unsent; else a message goes out, with the number sent as data or as a gap
 pub record Sends (o : Left1 Sent (List ℕ)) (i : ℕ) (r r′ : Reader) (s s′ : State) : Type 0 where
@@ -142,8 +153,8 @@ pub record Sends (o : Left1 Sent (List ℕ)) (i : ℕ) (r r′ : Reader) (s s′
 
 abbrev pub SendCalled : ℕ → State → Type 0
 SendCalled i s =
-    (l l′ : Line) → find i (s .lines) ≡ some l → find i (step (send i) s .lines) ≡ some l′
-    → Sends (sendOf (flowForm (s .flow)) (proxyOf (l .server)) (unsentRoom (l .server))) i (l .server) (l′ .server) s (step (send i) s)
+    (l : Line) → find i (s .lines) ≡ some l
+    → Then i (step (send i) s) (λ l′. Sends (sendOf (flowForm (s .flow)) (proxyOf (l .server)) (unsentRoom (l .server))) i (l .server) (l′ .server) s (step (send i) s))
 
 -- EVERY EVENT. A model reader's reply is no call of the writer
 abbrev pub AsCalled : Event → State → Type 0
