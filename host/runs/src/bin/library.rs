@@ -1,6 +1,7 @@
 //! library [CALLS] [SEED] [ANY_CALLS]: the proved library beside the crate, so
 //! many calls inside the compared range; then every entry point against the
-//! model on anything at all. Exits with 1 at the first difference.
+//! model, so many calls on anything at all. Exits with 1 at the first
+//! difference.
 
 use runs::{beside, library_subject::Library, raw};
 
@@ -22,6 +23,7 @@ fn main() {
         raw::run(seed, any_calls)
     });
     match outcome {
+        Ok(tally) if tally.is_empty() => {}
         Ok(tally) => {
             println!("every entry against the model, how often each answer:");
             for (entry, answers) in &tally {
