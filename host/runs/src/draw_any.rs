@@ -96,16 +96,28 @@ fn count(prng: &mut Prng) -> u32 {
     }
 }
 
+pub fn number_set(prng: &mut Prng, near: Near) -> NumberSet {
+    NumberSet {
+        base: near.number(prng),
+        count: count(prng),
+        words: words(prng),
+    }
+}
+
+pub fn fragment_set(prng: &mut Prng) -> FragmentSet {
+    FragmentSet {
+        base: fragment(prng),
+        count: count(prng),
+        words: words(prng),
+    }
+}
+
 pub fn reader_call(prng: &mut Prng, near: Near) -> ReaderCall {
     let number = near.number(prng);
     let last = near.number(prng);
     match prng.below(12) {
         0..=3 => ReaderCall::Ack {
-            set: NumberSet {
-                base: number,
-                count: count(prng),
-                words: words(prng),
-            },
+            set: number_set(prng, near),
             last,
         },
         4 => ReaderCall::Notify { number },
@@ -115,11 +127,7 @@ pub fn reader_call(prng: &mut Prng, near: Near) -> ReaderCall {
         8 => ReaderCall::GapUpTo { end: number, last },
         9..=10 => ReaderCall::Request {
             sample: number,
-            set: FragmentSet {
-                base: fragment(prng),
-                count: count(prng),
-                words: words(prng),
-            },
+            set: fragment_set(prng),
         },
         _ => ReaderCall::FragSent {
             sample: number,

@@ -18,6 +18,7 @@ pub mod model_subject;
 pub mod oracle_subject;
 pub mod prng;
 pub mod range;
+pub mod raw;
 pub mod reader_faults;
 pub mod sight;
 pub mod subject;

@@ -1,0 +1,113 @@
+//! Every entry point of the library against the model: on heads, rooms, lengths
+//! and numbers that may hold anything. Compared are the whole answer and the
+//! whole later content of everything lent, refusals included.
+//!
+//! The model knows coherent records only; here stands what document 01 and
+//! docs/DECISIONS.md say about the others: they get 1 and stay as they are.
+
+mod list;
+mod reader;
+mod sets;
+mod writer;
+
+use std::collections::BTreeMap;
+
+use model::{Answer, Refusal};
+use sintemuno::ffi;
+
+use crate::prng::Prng;
+
+/// How often each entry gave each answer.
+pub type Tally = BTreeMap<&'static str, BTreeMap<u32, u64>>;
+
+/// Calls on one drawn record.
+const CALLS_PER_WORLD: u64 = 8;
+
+pub fn run(seed: u64, calls: u64) -> Result<Tally, String> {
+    let mut tally = Tally::new();
+    for world in 0..(calls + CALLS_PER_WORLD - 1) / CALLS_PER_WORLD {
+        let mut prng = Prng::of_world(seed, world);
+        // So many of 37 entries each.
+        let result = match prng.below(37) {
+            0..=15 => reader::world(&mut prng, &mut tally),
+            16..=21 => sets::world(&mut prng, &mut tally),
+            22..=31 => writer::world(&mut prng, &mut tally),
+            _ => list::world(&mut prng, &mut tally),
+        };
+        result.map_err(|e| format!("world {} of seed {}: {}", world, seed, e))?;
+    }
+    Ok(tally)
+}
+
+/// All answers of all entries.
+pub fn answers(tally: &Tally) -> BTreeMap<u32, u64> {
+    let mut all = BTreeMap::new();
+    for (answer, times) in tally.values().flatten() {
+        *all.entry(*answer).or_default() += times;
+    }
+    all
+}
+
+fn count(tally: &mut Tally, entry: &'static str, answer: ffi::Answer) {
+    let answers = tally.entry(entry).or_default();
+    *answers.entry(answer.number).or_default() += 1;
+}
+
+fn number(refusal: Refusal) -> ffi::Answer {
+    let number = u32::from(refusal.number());
+    ffi::Answer { number }
+}
+
+const INCOHERENT: ffi::Answer = ffi::Answer { number: 1 };
+
+/// The answer and its value: zeros where it is a refusal.
+fn parts<T: Default>(answer: Answer<T>) -> (ffi::Answer, T) {
+    match answer {
+        Ok(value) => (ffi::Answer::default(), value),
+        Err(refusal) => (number(refusal), T::default()),
+    }
+}
+
+/// Any word: the ends of every range, small ones, and all others.
+fn word(prng: &mut Prng) -> u64 {
+    match prng.below(4) {
+        0 => prng.pick(&[
+            0,
+            1,
+            255,
+            256,
+            257,
+            1024,
+            1025,
+            1 << 31,
+            1 << 32,
+            (1 << 63) - 2,
+            (1 << 63) - 1,
+            1 << 63,
+            u64::MAX - 1,
+            u64::MAX,
+        ]),
+        1 => prng.next(),
+        _ => prng.below(20),
+    }
+}
+
+/// A room of another length, another word in it, or two words exchanged.
+fn damage_room<T: Copy>(prng: &mut Prng, room: &mut Vec<T>, any: impl Fn(&mut Prng) -> T) {
+    let place = prng.below(room.len().max(1) as u64) as usize;
+    match prng.below(8) {
+        0 => drop(room.pop()),
+        1 => room.push(any(prng)),
+        2 if prng.one_in(4) => room.clear(),
+        2 => room.truncate(place),
+        3 if room.len() > 1 => room.swap(place, 0),
+        4 if room.len() > 1 => room.swap(place, place.max(1) - 1),
+        _ => {
+            // Mostly where something is.
+            let place = if prng.coin() { place } else { place % 4 };
+            if let Some(word) = room.get_mut(place) {
+                *word = any(prng);
+            }
+        }
+    }
+}

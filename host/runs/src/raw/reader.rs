@@ -1,0 +1,394 @@
+//! The entries on one reader.
+
+use model::{Answer, Reader};
+use sintemuno::ffi::{
+    self, AckNacked, Changed, Cursor, FragmentNumber, NextFragRequested, NextNumber, ReaderProxy,
+    SequenceNumber, Taken, Told,
+};
+
+use super::{count, damage_room, parts, word, Tally, CALLS_PER_WORLD, INCOHERENT};
+use crate::{
+    beside::same,
+    calls::ReaderCall,
+    draw_any::{self, Near},
+    forms::{self, LentReader},
+    prng::Prng,
+};
+
+/// Which rooms a call is lent. It tests the head whole and these alone.
+#[derive(Clone, Copy, PartialEq, Eq)]
+pub struct Lends {
+    pub unsent: bool,
+    pub gaps: bool,
+    pub frags: bool,
+}
+
+const NONE: Lends = Lends {
+    unsent: false,
+    gaps: false,
+    frags: false,
+};
+pub const UNSENT: Lends = Lends {
+    unsent: true,
+    ..NONE
+};
+const GAPS: Lends = Lends { gaps: true, ..NONE };
+const FRAGS: Lends = Lends {
+    frags: true,
+    ..NONE
+};
+const UNSENT_AND_GAPS: Lends = Lends {
+    unsent: true,
+    gaps: true,
+    ..NONE
+};
+
+/// The record as far as it is lent, all else empty; `None` if that isn't
+/// coherent.
+pub fn view(lent: &LentReader, lends: Lends) -> Option<Reader> {
+    let head = &lent.head;
+    let counts_fit = head.unsent_count <= head.unsent_cap
+        && head.gap_count <= 256
+        && head.frag_count <= 16
+        && head.unsent_cap <= 1024;
+    if !counts_fit {
+        return None;
+    }
+    let mut part = lent.clone();
+    if !lends.unsent {
+        part.head.unsent_count = 0;
+        part.unsent = vec![0; head.unsent_cap];
+    }
+    if !lends.gaps {
+        part.head.gap_count = 0;
+        part.gaps = vec![0; 256];
+    }
+    if !lends.frags {
+        part.head.frag_count = 0;
+        part.samples = vec![0; 16];
+        part.words = vec![0; 1024];
+    }
+    part.view()
+}
+
+/// What was lent, as the changed record fills it; all else as it was.
+pub fn form(before: &LentReader, lends: Lends, reader: &Reader) -> LentReader {
+    let made = LentReader::form(reader);
+    let mut after = before.clone();
+    after.head.all_acked_before = made.head.all_acked_before;
+    after.head.gap_prefix_end = made.head.gap_prefix_end;
+    if lends.unsent {
+        after.head.unsent_count = made.head.unsent_count;
+        after.unsent = made.unsent;
+    }
+    if lends.gaps {
+        after.head.gap_count = made.head.gap_count;
+        after.gaps = made.gaps;
+    }
+    if lends.frags {
+        after.head.frag_count = made.head.frag_count;
+        after.samples = made.samples;
+        after.words = made.words;
+    }
+    after
+}
+
+/// What a call answers, and what it leaves of all that there is.
+fn judged<T: Default>(
+    before: &LentReader,
+    lends: Lends,
+    call: impl FnOnce(&mut Reader) -> Answer<T>,
+) -> (ffi::Answer, T, LentReader) {
+    let mut reader = match view(before, lends) {
+        Some(reader) => reader,
+        None => return (INCOHERENT, T::default(), before.clone()),
+    };
+    let (answer, value) = parts(call(&mut reader));
+    if answer.number != 0 {
+        return (answer, value, before.clone());
+    }
+    (answer, value, form(before, lends, &reader))
+}
+
+pub fn world(prng: &mut Prng, tally: &mut Tally) -> Result<(), String> {
+    let near = Near::new(prng);
+    let mut sound = LentReader::form(&draw_any::reader(prng, near));
+    for _ in 0..CALLS_PER_WORLD {
+        let damaged = prng.one_in(3);
+        let mut lent = sound.clone();
+        if damaged {
+            damage(prng, near, &mut lent);
+        }
+        match prng.below(15) {
+            0..=7 => changes(prng, near, tally, &mut lent)?,
+            8 => takes(prng, tally, &mut lent)?,
+            9..=10 => next_numbers(prng, near, tally, &lent)?,
+            11..=13 => fragment_questions(prng, tally, &lent)?,
+            _ => creation(prng, tally)?,
+        }
+        if !damaged {
+            sound = lent;
+        }
+    }
+    Ok(())
+}
+
+pub fn damage(prng: &mut Prng, near: Near, lent: &mut LentReader) {
+    for _ in 0..1 + prng.below(2) {
+        let any = |prng: &mut Prng| match prng.coin() {
+            true => near.number(prng) as u64,
+            false => word(prng),
+        };
+        let head = &mut lent.head;
+        match prng.below(10) {
+            0 => head.all_acked_before = SequenceNumber(any(prng) as i64),
+            1 => head.unsent_cap = any_count(prng, head.unsent_cap),
+            2 => head.unsent_count = any_count(prng, head.unsent_count),
+            3 => head.gap_prefix_end = SequenceNumber(any(prng) as i64),
+            4 => head.gap_count = any_count(prng, head.gap_count),
+            5 => head.frag_count = any_count(prng, head.frag_count),
+            6 => damage_room(prng, &mut lent.unsent, any),
+            7 => damage_room(prng, &mut lent.gaps, any),
+            8 => damage_room(prng, &mut lent.samples, any),
+            _ => damage_room(prng, &mut lent.words, word),
+        }
+    }
+}
+
+fn any_count(prng: &mut Prng, count: usize) -> usize {
+    match prng.below(3) {
+        0 => count.wrapping_add(1),
+        1 => count.wrapping_sub(1),
+        _ => word(prng) as usize,
+    }
+}
+
+/// The calls that leave a changed head, drawn as for coherent records.
+fn changes(
+    prng: &mut Prng,
+    near: Near,
+    tally: &mut Tally,
+    lent: &mut LentReader,
+) -> Result<(), String> {
+    let before = lent.clone();
+    let call = draw_any::reader_call(prng, near);
+    let (name, got, expected) = match &call {
+        ReaderCall::Ack { .. } => return acknowledges(&call, tally, lent),
+        ReaderCall::Notify { number } => (
+            "reader_notify_new_cache_change",
+            ffi::reader_notify_new_cache_change(lent.head, &mut lent.unsent, sn(*number)),
+            judged(&before, UNSENT, |r| r.notify_new_cache_change(*number)),
+        ),
+        ReaderCall::MarkSent { number } => (
+            "reader_mark_change_sent",
+            ffi::reader_mark_change_sent(lent.head, &mut lent.unsent, sn(*number)),
+            judged(&before, UNSENT, |r| r.mark_change_sent(*number)),
+        ),
+        ReaderCall::RemoveBefore { number } => (
+            "reader_remove_from_unsent_set_all_before",
+            ffi::reader_remove_from_unsent_set_all_before(lent.head, &mut lent.unsent, sn(*number)),
+            judged(&before, UNSENT, |r| {
+                r.remove_from_unsent_set_all_before(*number)
+            }),
+        ),
+        ReaderCall::Gap { number, last } => (
+            "reader_insert_pending_gap",
+            ffi::reader_insert_pending_gap(lent.head, &mut lent.gaps, sn(*number), sn(*last)),
+            judged(&before, GAPS, |r| r.insert_pending_gap(*number, *last)),
+        ),
+        ReaderCall::GapUpTo { end, last } => (
+            "reader_set_pending_gap_up_to",
+            ffi::reader_set_pending_gap_up_to(lent.head, &mut lent.gaps, sn(*end), sn(*last)),
+            judged(&before, GAPS, |r| r.set_pending_gap_up_to(*end, *last)),
+        ),
+        ReaderCall::Request { sample, set } => (
+            "reader_mark_frags_requested",
+            ffi::reader_mark_frags_requested(
+                lent.head,
+                &mut lent.samples,
+                &mut lent.words,
+                sn(*sample),
+                forms::fragment_set(set),
+            ),
+            judged(&before, FRAGS, |r| r.mark_frags_requested(*sample, set)),
+        ),
+        ReaderCall::FragSent { sample, fragment } => (
+            "reader_mark_frag_sent",
+            ffi::reader_mark_frag_sent(
+                lent.head,
+                &mut lent.samples,
+                &mut lent.words,
+                sn(*sample),
+                FragmentNumber(*fragment),
+            ),
+            judged(&before, FRAGS, |r| r.mark_frag_sent(*sample, *fragment)),
+        ),
+    };
+    count(tally, name, got.answer);
+    lent.head = got.proxy;
+    let (answer, (), after) = expected;
+    let proxy = after.head;
+    same(&(name, &call), got, Changed { answer, proxy })?;
+    same(&(name, &call), &*lent, &after)
+}
+
+fn sn(number: i64) -> SequenceNumber {
+    SequenceNumber(number)
+}
+
+fn acknowledges(call: &ReaderCall, tally: &mut Tally, lent: &mut LentReader) -> Result<(), String> {
+    let (set, last) = match call {
+        ReaderCall::Ack { set, last } => (set, *last),
+        _ => return Ok(()),
+    };
+    let before = lent.clone();
+    let (unsent, gaps) = (&mut lent.unsent, &mut lent.gaps);
+    let got =
+        ffi::reader_handle_ack_nack(lent.head, unsent, gaps, forms::number_set(set), sn(last));
+    count(tally, "reader_handle_ack_nack", got.answer);
+    lent.head = got.proxy;
+    let (answer, left_out, after) =
+        judged(&before, UNSENT_AND_GAPS, |r| r.handle_ack_nack(set, last));
+    let expected = AckNacked {
+        answer,
+        left_out: left_out as usize,
+        proxy: after.head,
+    };
+    same(call, got, expected)?;
+    same(call, &*lent, &after)
+}
+
+/// `take_unsent` with any room for what is taken.
+fn takes(prng: &mut Prng, tally: &mut Tally, lent: &mut LentReader) -> Result<(), String> {
+    let before = lent.clone();
+    let length = prng.pick(&[0, 1, 2, 3, 8, 2000]);
+    let mut out: Vec<u64> = (0..length).map(|_| prng.next()).collect();
+    let mut expected_out = out.clone();
+    let got = ffi::reader_take_unsent(lent.head, &mut lent.unsent, &mut out);
+    count(tally, "reader_take_unsent", got.answer);
+    lent.head = got.proxy;
+    let (answer, taken, after) = judged(&before, UNSENT, |r| {
+        let taken: Vec<i64> = r.unsent.iter().copied().take(length).collect();
+        for number in &taken {
+            r.unsent.remove(number);
+        }
+        Ok(taken)
+    });
+    for (place, number) in taken.iter().enumerate() {
+        expected_out[place] = *number as u64;
+    }
+    let expected = Taken {
+        answer,
+        count: taken.len(),
+        proxy: after.head,
+    };
+    same(&("take_unsent", length), got, expected)?;
+    same(&("take_unsent", length), &*lent, &after)?;
+    same(&("take_unsent, out", length), out, expected_out)
+}
+
+/// A cursor near the numbers, or anywhere.
+pub fn cursor(prng: &mut Prng, near: Near) -> Cursor {
+    let from = match prng.below(3) {
+        0 => word(prng),
+        _ => near.number(prng).max(0) as u64,
+    };
+    Cursor { from }
+}
+
+/// The number found and the cursor past it, or a refusal's zeros.
+pub fn next_number(answer: ffi::Answer, number: i64) -> NextNumber {
+    let from = if answer.number == 0 {
+        number as u64 + 1
+    } else {
+        0
+    };
+    NextNumber {
+        answer,
+        number: sn(number),
+        cursor: Cursor { from },
+    }
+}
+
+fn next_numbers(
+    prng: &mut Prng,
+    near: Near,
+    tally: &mut Tally,
+    lent: &LentReader,
+) -> Result<(), String> {
+    let at = cursor(prng, near);
+    // Past the signed numbers there is nothing.
+    let from = i64::try_from(at.from).ok();
+    let nothing = Err(model::Refusal::NothingThere);
+    let unsent = |from: Option<i64>| {
+        judged(lent, UNSENT, |r| {
+            from.map_or(nothing, |from| r.next_unsent(from))
+        })
+    };
+    let (answer, number, _) = unsent(Some(0));
+    let got = ffi::reader_first_unsent_change(lent.head, &lent.unsent);
+    count(tally, "reader_first_unsent_change", got.answer);
+    same(&"first_unsent_change", got, next_number(answer, number))?;
+
+    let (answer, number, _) = unsent(from);
+    let got = ffi::reader_next_unsent_change(lent.head, &lent.unsent, at);
+    count(tally, "reader_next_unsent_change", got.answer);
+    let name = ("next_unsent_change", at);
+    same(&name, got, next_number(answer, number))?;
+
+    let (answer, number, _) = judged(lent, GAPS, |r| {
+        from.map_or(nothing, |from| r.next_pending_gap(from))
+    });
+    let got = ffi::reader_next_pending_gap(lent.head, &lent.gaps, at);
+    count(tally, "reader_next_pending_gap", got.answer);
+    let name = ("next_pending_gap", at);
+    same(&name, got, next_number(answer, number))
+}
+
+fn fragment_questions(prng: &mut Prng, tally: &mut Tally, lent: &LentReader) -> Result<(), String> {
+    let from = match prng.below(4) {
+        0 => word(prng),
+        _ => u64::from(draw_any::fragment(prng)),
+    };
+    let (answer, (sample, fragment), _) = judged(lent, FRAGS, |r| {
+        let from = u32::try_from(from).map_err(|_| model::Refusal::NothingThere)?;
+        r.next_fragment(from)
+    });
+    let next = if answer.number == 0 {
+        u64::from(fragment) + 1
+    } else {
+        0
+    };
+    let expected = NextFragRequested {
+        answer,
+        sample: sn(sample),
+        fragment: FragmentNumber(fragment),
+        cursor: Cursor { from: next },
+    };
+    let got =
+        ffi::reader_next_frag_requested(lent.head, &lent.samples, &lent.words, Cursor { from });
+    count(tally, "reader_next_frag_requested", got.answer);
+    same(&("next_frag_requested", from), got, expected)?;
+
+    let (answer, yes, _) = judged(lent, FRAGS, |r| r.any_requested());
+    let got = ffi::reader_repair_frags_requested(lent.head, &lent.samples, &lent.words);
+    count(tally, "reader_repair_frags_requested", got.answer);
+    same(&"repair_frags_requested", got, Told { answer, yes })
+}
+
+fn creation(prng: &mut Prng, tally: &mut Tally) -> Result<(), String> {
+    let cap = word(prng) as usize;
+    let got = ffi::reader_new(cap);
+    count(tally, "reader_new", got.answer);
+    let expected = match Reader::new(cap) {
+        Ok(reader) => Changed {
+            answer: ffi::Answer::default(),
+            proxy: LentReader::form(&reader).head,
+        },
+        Err(refusal) => Changed {
+            answer: super::number(refusal),
+            proxy: ReaderProxy::default(),
+        },
+    };
+    same(&("reader_new", cap), got, expected)
+}
