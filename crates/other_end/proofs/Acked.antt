@@ -5,7 +5,7 @@ use mathlib.Core.Bool.{Bool, true, false, not, cond}
 use mathlib.Core.List.{List, [], _∷_}
 use native.Mathlib.Omega.{arith}
 use lib.Dec.{ltb, eqb}
-use lib.ListN.{getD, set}
+use lib.ListN.{length, getD, set}
 use borrow.Author.Tests.{ltb-false, eq-eqb}
 use Rattle.numbers.specs.Number.{rankOf, negative, numberAt}
 use Rattle.numbers.specs.Refusals.{row, rowsOf, answerOf, isDone, unless, done}
@@ -25,6 +25,7 @@ use Rattle.reader_list.proofs.Kept.{fits-acknowledged}
 use Rattle.writer_send_buffer.specs.declared.frontiers.Woken.{Woken}
 use Rattle.writer_send_buffer.specs.Flow.{stored}
 use Rattle.writer_send_buffer.specs.Buffer.{form as flowForm, toldNo}
+use Rattle.writer_send_buffer.specs.Samples.{isCoherentStore}
 use Rattle.writer_send_buffer.proofs.Steps.{at-least-0}
 use Rattle.writer_steps.specs.declared.acks.AckStep.{AckStep}
 use Rattle.writer_steps.specs.Answers.{firstAnswer}
@@ -35,7 +36,7 @@ use Rattle.other_end.specs.AsCalled.{ackOn, Acks}
 use Rattle.other_end.proofs.Heads.{Low, low-set, low-at}
 use Rattle.other_end.proofs.Forms.{list-back, list-set, list-get}
 use Rattle.other_end.proofs.Steps.{does-ack}
-use Rattle.other_end.proofs.Listed.{list-done, list-refused}
+use Rattle.other_end.proofs.Listed.{store-kept, list-done, list-refused}
 use Rattle.other_end.proofs.Sound.{Sound}
 
 module _ (s : State) (h : Sound s) (i : ℕ) (z : NumberSet) (r : Reader) (v : Valid r) (near : z .base ≤ suc (s .flow .last)) (agree : unknown i (s .heads) ≡ false → headAt i (s .heads) .acked ≡ r .acked) where
@@ -123,12 +124,12 @@ module _ (s : State) (h : Sound s) (i : ℕ) (z : NumberSet) (r : Reader) (v : V
 
   -- refused: nothing changes
   refused : (n : Left2 AckNacked (List ℕ) (List ℕ)) (rows : Rows) → isDone (answerOf rows) ≡ false → (o : Left1 Answer (List ReaderHead)) (hs : List Head) → Low (s .flow .last) hs → fits hs ≡ true
-      → o ≡ record { result = answerOf rows; first = listForm hs } → Acks (stepBy n o) (answerOf rows) s r
+      → o ≡ record { result = answerOf rows; first = listForm hs } → Acks (stepBy n o) (answerOf rows) s s r
   refused n rows e o hs low fit eo =
       let w = ap (listStep list (flowForm (s .flow))) eo ∙ list-refused (s .flow) (h .flow) hs low fit rows e list in
-      subst (λ (x : Left1 Woken (List ReaderHead)). Acks (stepIf (isDone (x .result .told .answer)) n x) (answerOf rows) s r) (sym w)
-      (subst (λ (t : Bool). Acks (stepIf t n (record { result = record { told = toldNo (answerOf rows); flow = flowForm (s .flow) }; first = list })) (answerOf rows) s r) (sym e)
-      (record { answer = refl; flow = refl; list = refl; head = refl; unsent = refl; gaps = refl }))
+      subst (λ (x : Left1 Woken (List ReaderHead)). Acks (stepIf (isDone (x .result .told .answer)) n x) (answerOf rows) s s r) (sym w)
+      (subst (λ (t : Bool). Acks (stepIf t n (record { result = record { told = toldNo (answerOf rows); flow = flowForm (s .flow) }; first = list })) (answerOf rows) s s r) (sym e)
+      (record { answer = refl; flow = refl; list = refl; head = refl; unsent = refl; gaps = refl; store = λ store lens c. c }))
 
   -- the list with the acked a, which the reader's head has or is to get
   module _ (on : unknown i (s .heads) ≡ false) (a : ℕ) (top : a ≤ suc (s .flow .last)) where
@@ -151,7 +152,7 @@ module _ (s : State) (h : Sound s) (i : ℕ) (z : NumberSet) (r : Reader) (v : V
       ∙ ap (beforeBy n done) (acked-is a ∙ ap (λ (t : Bool). ackedBy t a) e)
 
   acks : (long off ahead : Bool) → unknown i (s .heads) ≡ off → isAhead (s .flow .last) (z .base) ≡ ahead
-      → Acks (stepOf (nackedBy long ahead) (foundBy off)) (answerOf (rows3 long off ahead)) (tried (rows3 long off ahead) s (acknowledges i z s)) (unless (rows3 long off ahead) (λ a. r) r₁)
+      → Acks (stepOf (nackedBy long ahead) (foundBy off)) (answerOf (rows3 long off ahead)) s (tried (rows3 long off ahead) s (acknowledges i z s)) (unless (rows3 long off ahead) (λ a. r) r₁)
   acks true true ahead e q = refused (nackedBy true ahead) (rows3 true true ahead) refl _ (s .heads) (h .low) (h .list) (before-is (nackedBy true ahead) true e (r .acked))
   acks true false ahead e q =
       refused (nackedBy true ahead) (rows3 true false ahead) refl _ (acknowledged i (r .acked) (s .heads)) (low-acked e (r .acked) (old-top e)) (fits-acked e (r .acked) (old-top e)) (before-is (nackedBy true ahead) false e (r .acked))
@@ -162,13 +163,22 @@ module _ (s : State) (h : Sound s) (i : ℕ) (z : NumberSet) (r : Reader) (v : V
   acks false false false e q =
       let top : r₁ .acked ≤ suc (s .flow .last) = omega (arith, old-top e, ltb-false (suc (s .flow .last)) (baseOf (z .base)) q) in
       let w = ap (listStep list (flowForm (s .flow))) (before-is (nackedBy false false) false e (r₁ .acked)) ∙ list-done (s .flow) (h .flow) (acknowledged i (r₁ .acked) (s .heads)) (low-acked e (r₁ .acked) top) (fits-acked e (r₁ .acked) top) list in
-      subst (λ (x : Left1 Woken (List ReaderHead)). Acks (stepIf (isDone (x .result .told .answer)) (nackedBy false false) x) done (acknowledges i z s) r₁) (sym w)
-      (record { answer = refl; flow = ap (λ (hs : List Head). flowForm (stored (frontier hs) (s .flow))) same; list = ap listForm same; head = refl; unsent = refl; gaps = refl })
+      subst (λ (x : Left1 Woken (List ReaderHead)). Acks (stepIf (isDone (x .result .told .answer)) (nackedBy false false) x) done s (acknowledges i z s) r₁) (sym w)
+      (record {
+        answer = refl;
+        flow = ap (λ (hs : List Head). flowForm (stored (frontier hs) (s .flow))) same;
+        list = ap listForm same;
+        head = refl;
+        unsent = refl;
+        gaps = refl;
+        store = λ store lens c. subst (λ (hs : List Head). isCoherentStore (flowForm (stored (frontier hs) (s .flow))) (length store) lens ≡ true) same
+            (store-kept (s .flow) (h .flow) (acknowledged i (r₁ .acked) (s .heads)) (low-acked e (r₁ .acked) top) (fits-acked e (r₁ .acked) top) store lens c);
+      })
     where
       same : acknowledged i (ackedAfter (r .acked) (z .base)) (s .heads) ≡ ackedHeads i z s
       same = ap (λ (n : ℕ). acknowledged i (ackedAfter n (z .base)) (s .heads)) (sym (agree e))
 
-  pub acks-so : Acks (ackOn i z s r) (answerOf (ackRows i z s)) (tried (ackRows i z s) s (acknowledges i z s)) (unless (ackRows i z s) (λ a. r) r₁)
+  pub acks-so : Acks (ackOn i z s r) (answerOf (ackRows i z s)) s (tried (ackRows i z s) s (acknowledges i z s)) (unless (ackRows i z s) (λ a. r) r₁)
   acks-so =
-      subst (λ (o : Left3 AckStep (List ReaderHead) (List ℕ) (List ℕ)). Acks o (answerOf (ackRows i z s)) (tried (ackRows i z s) s (acknowledges i z s)) (unless (ackRows i z s) (λ a. r) r₁)) (sym step-is)
+      subst (λ (o : Left3 AckStep (List ReaderHead) (List ℕ) (List ℕ)). Acks o (answerOf (ackRows i z s)) s (tried (ackRows i z s) s (acknowledges i z s)) (unless (ackRows i z s) (λ a. r) r₁)) (sym step-is)
       (acks (ltb 256 (z .count)) (unknown i (s .heads)) (isAhead (s .flow .last) (z .base)) refl refl)

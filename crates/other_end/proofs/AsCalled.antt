@@ -1,14 +1,14 @@
 -- Every event of the writer is what its calls do, on the forms of the system's records. Assumes nothing.
-use Prim.Native.Nat.{ℕ, zero, suc, _+_, _≤_, max}
+use Prim.Native.Nat.{ℕ, zero, suc, _+_, _*_, _≤_, max}
 use mathlib.Core.Path.{_≡_, refl, sym, ap, subst, _∙_}
 use mathlib.Core.Bool.{Bool, true, false, not, cond}
 use mathlib.Core.List.{List, [], _∷_, map}
 use mathlib.Core.Option.{Option, none, some}
 use native.Mathlib.Omega.{arith}
-use lib.Dec.{ltb}
+use lib.Dec.{ltb, eqb}
 use lib.ListN.{length, set, replicate}
-use borrow.Author.Tests.{eqb-true, eqb-false}
-use Rattle.sets.proofs.Bools.{clash}
+use borrow.Author.Tests.{eqb-true, eqb-false, eq-eqb}
+use Rattle.sets.proofs.Bools.{and-both, clash}
 use Rattle.numbers.specs.Number.{topNumber, rankOf, numberAt}
 use Rattle.numbers.specs.Refusals.{answerOf, isDone, unless, done}
 use Rattle.numbers.specs.Promise.{Left1, Left3}
@@ -31,9 +31,11 @@ use Rattle.writer_send_buffer.specs.declared.flow.Numbered.{Numbered}
 use Rattle.writer_send_buffer.specs.declared.flow.WriterSendBuffer.{WriterSendBuffer}
 use Rattle.writer_send_buffer.proofs.Sound.{Allowed, allowed-is}
 use Rattle.writer_send_buffer.specs.Flow.{Flow, allowed, counted, blank, admitRows, admitted, ahead, unwritten, raised, evicted}
-use Rattle.writer_send_buffer.specs.Buffer.{form as flowForm, limited, zeroed, ranged, noNumber, toldNo, lastOf}
+use Rattle.writer_send_buffer.specs.Buffer.{form as flowForm, isCoherent, limited, zeroed, ranged, noNumber, toldNo, lastOf, sentOf, evictOf}
 use Rattle.writer_send_buffer.specs.Samples.{isCoherentStore, startOf, slotOf, over, admitOf}
-use Rattle.writer_send_buffer.proofs.Steps.{view-form, form-coherent as flow-coherent}
+use Rattle.writer_send_buffer.specs.History.{admit, setSent, removeBefore}
+use Rattle.writer_send_buffer.proofs.Kept.{coherent-step}
+use Rattle.writer_send_buffer.proofs.Steps.{view-form, form-coherent as flow-coherent, fits-blank}
 use Rattle.writer_steps.specs.Write.{told}
 use Rattle.other_end.specs.Calls.{Call, result, callRows}
 use Rattle.other_end.specs.System.{Line, Body, sample, gap, beat, ack, Msg, State, Event, match, depart, write, sentTo, evictTo, call, heartbeat, send, reply, deliver, find, upd, nth, onServer, withLines, withFlow, tried, ackRows, acknowledges, called, writeRows, sentRows, evictRows, wrote, evicts, arrive, step}
@@ -49,8 +51,13 @@ use Rattle.other_end.proofs.Sends.{send-called}
 
 -- A NEW WRITER: no limit of those allowed is 0
 pub starts : (k : Kind) (l : Limits) (slots : ℕ) → allowed l ≡ true → Starts k l slots
-starts k l slots e = record { flow = ap by counts ∙ ap (λ (t : Bool). made t l) e; list = frees slots }
+starts k l slots e = record { flow = ap by counts ∙ ap (λ (t : Bool). made t l) e; list = frees slots; store = stored }
   where
+    stored : (store lens : List ℕ) → length lens ≡ l .slots → length store ≡ l .slots * l .«slot_bytes» → isCoherentStore (flowForm (blank k l)) (length store) lens ≡ true
+    stored store lens p q =
+        and-both (isCoherent (flowForm (blank k l))) _ (flow-coherent (blank k l) (fits-blank k l e))
+        (and-both (eqb (length lens) (l .slots)) _ (eq-eqb (length lens) (l .slots) p) (and-both (eqb (length store) (l .slots * l .«slot_bytes»)) true (eq-eqb (length store) (l .slots * l .«slot_bytes») q) refl))
+
     made : Bool → Limits → Moved
     made t m = unless (limited (not t)) (λ a. record { answer = a; flow = zeroed }) (record { answer = done; flow = flowForm (blank k m) })
 
@@ -79,25 +86,25 @@ starts k l slots e = record { flow = ap by counts ∙ ap (λ (t : Bool). made t 
 module _ (s : State) (h : Sound s) where
   -- AN ACKNACK
   module _ (i : ℕ) (z : NumberSet) (near : z .base ≤ suc (s .flow .last)) where
-    ack-found : (l : Line) → find i (s .lines) ≡ some l → Then i (arrive i (ack z) s) (λ l′. Acks (ackOn i z s (l .server)) (answerOf (ackRows i z s)) (arrive i (ack z) s) (l′ .server))
+    ack-found : (l : Line) → find i (s .lines) ≡ some l → Then i (arrive i (ack z) s) (λ l′. Acks (ackOn i z s (l .server)) (answerOf (ackRows i z s)) s (arrive i (ack z) s) (l′ .server))
     ack-found l e = go (isDone (answerOf (ackRows i z s))) (acks-so s h i z (l .server) (h .lines i l e .valid) near (λ _. ap (λ x. x .acked) (h .held i l e .head)))
       where
         up : Reader → Reader
         up = acknowledge (s .flow .last) (z .base) (members z)
 
-        go : (t : Bool) → Acks (ackOn i z s (l .server)) (answerOf (ackRows i z s)) (cond t (acknowledges i z s) s) (cond t (up (l .server)) (l .server))
-            → Then i (cond t (acknowledges i z s) s) (λ l′. Acks (ackOn i z s (l .server)) (answerOf (ackRows i z s)) (cond t (acknowledges i z s) s) (l′ .server))
+        go : (t : Bool) → Acks (ackOn i z s (l .server)) (answerOf (ackRows i z s)) s (cond t (acknowledges i z s) s) (cond t (up (l .server)) (l .server))
+            → Then i (cond t (acknowledges i z s) s) (λ l′. Acks (ackOn i z s (l .server)) (answerOf (ackRows i z s)) s (cond t (acknowledges i z s) s) (l′ .server))
         go true a = (onServer up l, find-same i (onServer up) (λ x. refl) (s .lines) l e, a)
         go false a = (l, e, a)
 
-    ack-unknown : find i (s .lines) ≡ none → (r : Reader) → Valid r → Acks (ackOn i z s r) (answerOf (ackRows i z s)) s r × (arrive i (ack z) s ≡ s)
+    ack-unknown : find i (s .lines) ≡ none → (r : Reader) → Valid r → Acks (ackOn i z s r) (answerOf (ackRows i z s)) s s r × (arrive i (ack z) s ≡ s)
     ack-unknown e r v = go (unknown i (s .heads)) refl
       where
-        go : (off : Bool) → unknown i (s .heads) ≡ off → Acks (ackOn i z s r) (answerOf (ackRows i z s)) s r × (arrive i (ack z) s ≡ s)
+        go : (off : Bool) → unknown i (s .heads) ≡ off → Acks (ackOn i z s r) (answerOf (ackRows i z s)) s s r × (arrive i (ack z) s ≡ s)
         go false q = let w = h .known i q in none-some (sym e ∙ w .1)
         go true q =
             let no : isDone (answerOf (ackRows i z s)) ≡ false = refuses (ackRows i z s) q in (
-              subst (λ (t : Bool). Acks (ackOn i z s r) (answerOf (ackRows i z s)) (cond t (acknowledges i z s) s) (cond t (acknowledge (s .flow .last) (z .base) (members z) r) r)) no
+              subst (λ (t : Bool). Acks (ackOn i z s r) (answerOf (ackRows i z s)) s (cond t (acknowledges i z s) s) (cond t (acknowledge (s .flow .last) (z .base) (members z) r) r)) no
                   (acks-so s h i z r v near (λ w. clash (unknown i (s .heads)) q w)),
               ap (λ (t : Bool). cond t (acknowledges i z s) s) no,
             )
@@ -130,7 +137,7 @@ module _ (s : State) (h : Sound s) where
   write-called : (len : ℕ) (opted : Bool) → WriteCalled len opted s
   write-called len opted store lens payload el c =
       subst (λ (o : Left3 Numbered WriterSendBuffer (List ℕ) (List ℕ)). Writes (record { writer = o; readers = cond (isDone (o .result .answer)) (map (told (o .result .number)) (map keptForm (s .lines))) (map keptForm (s .lines)) }) (answerOf (writeRows len opted s)) (step (write len opted) s)) (sym is)
-      (go (isDone (answerOf (writeRows len opted s))) refl)
+      (go (isDone (answerOf (writeRows len opted s))) refl (subst fine is (coherent-step (record { flow = flowForm (s .flow); bytes = store; lens = lens }) c (admit payload opted))))
     where
       by : Bool → ℕ → Flow → Left3 Numbered WriterSendBuffer (List ℕ) (List ℕ)
       by t n g =
@@ -144,6 +151,9 @@ module _ (s : State) (h : Sound s) where
 
       is : admitOf (flowForm (s .flow)) store lens payload opted ≡ by true len (s .flow)
       is = ap (λ (g : Flow). by (isCoherentStore (flowForm (s .flow)) (length store) lens) (length payload) g) (view-form (s .flow) (h .flow)) ∙ ap (λ (t : Bool). by t (length payload) (s .flow)) c ∙ ap (λ (n : ℕ). by true n (s .flow)) el
+
+      fine : Left3 Numbered WriterSendBuffer (List ℕ) (List ℕ) → Type 0
+      fine o = isCoherentStore (o .first) (length (o .second)) (o .third) ≡ true
 
       done-by : Left3 Numbered WriterSendBuffer (List ℕ) (List ℕ)
       done-by =
@@ -160,27 +170,29 @@ module _ (s : State) (h : Sound s) where
       outcome : Left3 Numbered WriterSendBuffer (List ℕ) (List ℕ) → State → Type 0
       outcome o s′ = Writes (record { writer = o; readers = cond (isDone (o .result .answer)) (map (told (o .result .number)) (map keptForm (s .lines))) (map keptForm (s .lines)) }) (answerOf (writeRows len opted s)) s′
 
-      go : (t : Bool) → isDone (answerOf (writeRows len opted s)) ≡ t → outcome (cond t done-by not-by) (cond t (wrote opted s) s)
-      go true e =
+      go : (t : Bool) → isDone (answerOf (writeRows len opted s)) ≡ t → fine (cond t done-by not-by) → outcome (cond t done-by not-by) (cond t (wrote opted s) s)
+      go true e w =
           let k = done-clear (writeRows len opted s) e in
           let d : (s .flow .last ≡ topNumber → ⊥) = eqb-false (s .flow .last) topNumber (k .used-up) in
           record {
             answer = sym (done-is (answerOf (writeRows len opted s)) (eqb-true (answerOf (writeRows len opted s) .number) 0 e));
             flow = refl;
-            number = λ w. refl;
-            readers = told-all (s .flow .last + 1) (omega arith) (omega (arith, h .flow .last-most)) (s .lines) (found-all (λ l. Valid (l .server)) (s .lines) (h .apart) (λ i l w. h .lines i l w .valid));
+            number = λ _. refl;
+            store = w;
+            readers = told-all (s .flow .last + 1) (omega arith) (omega (arith, h .flow .last-most)) (s .lines) (found-all (λ l. Valid (l .server)) (s .lines) (h .apart) (λ i l q. h .lines i l q .valid));
           }
-      go false e =
+      go false e w =
           record {
             answer = refl;
             flow = refl;
-            number = λ w. clash (isDone (answerOf (writeRows len opted s))) w e;
+            number = λ d. clash (isDone (answerOf (writeRows len opted s))) d e;
+            store = w;
             readers = ap (λ (t : Bool). cond t (map (told (numberAt 0)) (map keptForm (s .lines))) (map keptForm (s .lines))) e;
           }
 
   -- THE FRONTIERS AND EVICTION
   sent-called : (n : SequenceNumber) → SentCalled n s
-  sent-called n = subst (λ (o : Left1 Told WriterSendBuffer). (o .result .answer ≡ answerOf (sentRows n s)) × (o .first ≡ flowForm (step (sentTo n) s .flow))) (sym (does-sent (s .flow) (h .flow) n)) (go (unwritten (rankOf n) (s .flow)))
+  sent-called n = (is .0, is .1, λ store lens c. subst (λ (f : WriterSendBuffer). isCoherentStore f (length store) lens ≡ true) (is .1) (coherent-step (record { flow = flowForm (s .flow); bytes = store; lens = lens }) c (setSent n)))
     where
       out : Bool → Left1 Told WriterSendBuffer
       out t = unless (ranged true t) (λ a. record { result = toldNo a; first = flowForm (s .flow) }) (record { result = record { answer = done; yes = ltb (s .flow .sent) (rankOf n) }; first = flowForm (raised (rankOf n) (s .flow)) })
@@ -189,8 +201,13 @@ module _ (s : State) (h : Sound s) where
       go true = (refl, refl)
       go false = (refl, refl)
 
+      is : (sentOf (flowForm (s .flow)) n .result .answer ≡ answerOf (sentRows n s)) × (sentOf (flowForm (s .flow)) n .first ≡ flowForm (step (sentTo n) s .flow))
+      is =
+          subst (λ (o : Left1 Told WriterSendBuffer). (o .result .answer ≡ answerOf (sentRows n s)) × (o .first ≡ flowForm (step (sentTo n) s .flow))) (sym (does-sent (s .flow) (h .flow) n))
+          (go (unwritten (rankOf n) (s .flow)))
+
   evict-called : (n : SequenceNumber) → EvictCalled n s
-  evict-called n = subst (λ (o : Left1 Answer WriterSendBuffer). (o .result ≡ answerOf (evictRows n s)) × (o .first ≡ flowForm (step (evictTo n) s .flow))) (sym (does-evict (s .flow) (h .flow) n)) (go (ahead (rankOf n) (s .flow)))
+  evict-called n = (is .0, is .1, λ store lens c. subst (λ (f : WriterSendBuffer). isCoherentStore f (length store) lens ≡ true) (is .1) (coherent-step (record { flow = flowForm (s .flow); bytes = store; lens = lens }) c (removeBefore n)))
     where
       out : Bool → Left1 Answer WriterSendBuffer
       out t = unless (ranged true t) (λ a. record { result = a; first = flowForm (s .flow) }) (record { result = done; first = flowForm (evicted (rankOf n) (s .flow)) })
@@ -198,6 +215,11 @@ module _ (s : State) (h : Sound s) where
       go : (t : Bool) → (out t .result ≡ answerOf (ranged true t)) × (out t .first ≡ flowForm (tried (ranged true t) s (evicts (rankOf n) s) .flow))
       go true = (refl, refl)
       go false = (refl, refl)
+
+      is : (evictOf (flowForm (s .flow)) n .result ≡ answerOf (evictRows n s)) × (evictOf (flowForm (s .flow)) n .first ≡ flowForm (step (evictTo n) s .flow))
+      is =
+          subst (λ (o : Left1 Answer WriterSendBuffer). (o .result ≡ answerOf (evictRows n s)) × (o .first ≡ flowForm (step (evictTo n) s .flow))) (sym (does-evict (s .flow) (h .flow) n))
+          (go (ahead (rankOf n) (s .flow)))
 
   -- THE OTHER CALLS
   call-called : (i : ℕ) (c : Call) → CallCalled i c s

@@ -3,7 +3,7 @@ use Prim.Native.Nat.{ℕ}
 use mathlib.Core.Path.{_≡_, refl, sym, ap, subst, _∙_}
 use mathlib.Core.Bool.{Bool, true, false, not, cond}
 use mathlib.Core.List.{List, [], _∷_}
-use lib.ListN.{set}
+use lib.ListN.{length, set}
 use borrow.Author.Tests.{eqb-true, not-false}
 use Rattle.numbers.specs.Refusals.{answerOf, isDone, unless, done}
 use Rattle.numbers.specs.Promise.{Left1}
@@ -23,7 +23,10 @@ use Rattle.writer_send_buffer.specs.declared.flow.WriterSendBuffer.{WriterSendB
 use Rattle.writer_send_buffer.specs.declared.frontiers.Woken.{Woken}
 use Rattle.writer_send_buffer.specs.Flow.{Flow, stored, wakes}
 use Rattle.writer_send_buffer.specs.Buffer.{form as flowForm, limited, toldNo, ackedOf}
+use Rattle.writer_send_buffer.specs.Samples.{isCoherentStore}
+use Rattle.writer_send_buffer.specs.History.{setAcked}
 use Rattle.writer_send_buffer.proofs.Sound.{Fits}
+use Rattle.writer_send_buffer.proofs.Kept.{coherent-step}
 use Rattle.writer_steps.specs.Answers.{earlier, firstAnswer}
 use Rattle.writer_steps.specs.Readers.{listStep}
 use Rattle.other_end.specs.System.{State, tried, matchRows, departRows, joined, left}
@@ -98,6 +101,12 @@ module _ (f : Flow) (h : Fits f) (hs : List Head) (low : Low (f .last) hs) (fit 
       ap (λ (x : Front). listBy old (firstAnswer (before ∷ x .answer ∷ ackedOf (flowForm f) (x .frontier) .result .answer ∷ [])) (ackedOf (flowForm f) (x .frontier))) front-is
       ∙ ap (λ (p : Left1 Told WriterSendBuffer). listBy old (firstAnswer (before ∷ done ∷ p .result .answer ∷ [])) p) (does-store f h (frontier hs) (frontier-low (f .last) hs low))
 
+  -- and a lent store that is coherent stays so
+  pub store-kept : (store lens : List ℕ) → isCoherentStore (flowForm f) (length store) lens ≡ true → isCoherentStore (flowForm (stored (frontier hs) f)) (length store) lens ≡ true
+  store-kept store lens c =
+      subst (λ (o : Left1 Told WriterSendBuffer). isCoherentStore (o .first) (length store) lens ≡ true) (does-store f h (frontier hs) (frontier-low (f .last) hs low))
+      (coherent-step (record { flow = flowForm f; bytes = store; lens = lens }) c (setAcked (frontierAt (frontier hs))))
+
   pub list-done : (old : List ReaderHead)
       → listStep old (flowForm f) (record { result = done; first = listForm hs })
       ≡ record { result = record { told = record { answer = done; yes = wakes (frontier hs) f }; flow = flowForm (stored (frontier hs) f) }; first = listForm hs }
@@ -123,18 +132,20 @@ module _ (s : State) (h : Sound s) where
   callBy r hs = unless r (λ no. record { result = no; first = listForm (s .heads) }) (record { result = done; first = hs })
 
   lists : (r : Rows) (s₁ : State) (o : Left1 Answer (List ReaderHead)) → o ≡ callBy r (listForm (s₁ .heads)) → s₁ .flow ≡ stored (frontier (s₁ .heads)) (s .flow) → (isDone (answerOf r) ≡ true → Sound s₁)
-      → Lists (listStep list (flowForm (s .flow)) o) (answerOf r) (tried r s s₁)
-  lists r s₁ o eo ef next = subst (λ (x : Left1 Answer (List ReaderHead)). Lists (listStep list (flowForm (s .flow)) x) (answerOf r) (tried r s s₁)) (sym eo) (go (isDone (answerOf r)) refl)
+      → Lists (listStep list (flowForm (s .flow)) o) (answerOf r) s (tried r s s₁)
+  lists r s₁ o eo ef next = subst (λ (x : Left1 Answer (List ReaderHead)). Lists (listStep list (flowForm (s .flow)) x) (answerOf r) s (tried r s s₁)) (sym eo) (go (isDone (answerOf r)) refl)
     where
       go : (t : Bool) → isDone (answerOf r) ≡ t
-          → Lists (listStep (listForm (s .heads)) (flowForm (s .flow)) (cond t (record { result = done; first = listForm (s₁ .heads) }) (record { result = answerOf r; first = listForm (s .heads) }))) (answerOf r) (cond t s₁ s)
+          → Lists (listStep (listForm (s .heads)) (flowForm (s .flow)) (cond t (record { result = done; first = listForm (s₁ .heads) }) (record { result = answerOf r; first = listForm (s .heads) }))) (answerOf r) s (cond t s₁ s)
       go true e =
           let n = next e in
-          let w = list-done (s .flow) (h .flow) (s₁ .heads) (subst (λ (g : Flow). Low (g .last) (s₁ .heads)) ef (n .low)) (n .list) (listForm (s .heads)) in
+          let low : Low (s .flow .last) (s₁ .heads) = subst (λ (g : Flow). Low (g .last) (s₁ .heads)) ef (n .low) in
+          let w = list-done (s .flow) (h .flow) (s₁ .heads) low (n .list) (listForm (s .heads)) in
           record {
             answer = ap (λ (x : Left1 Woken (List ReaderHead)). x .result .told .answer) w ∙ sym (done-is (answerOf r) (eqb-true (answerOf r .number) 0 e));
             flow = ap (λ (x : Left1 Woken (List ReaderHead)). x .result .flow) w ∙ ap flowForm (sym ef);
             list = ap (λ (x : Left1 Woken (List ReaderHead)). x .first) w;
+            store = λ store lens c. subst (λ (g : Flow). isCoherentStore (flowForm g) (length store) lens ≡ true) (sym ef) (store-kept (s .flow) (h .flow) (s₁ .heads) low (n .list) store lens c);
           }
       go false e =
           let w = list-refused (s .flow) (h .flow) (s .heads) (h .low) (h .list) r e (listForm (s .heads)) in
@@ -142,6 +153,7 @@ module _ (s : State) (h : Sound s) where
             answer = ap (λ (x : Left1 Woken (List ReaderHead)). x .result .told .answer) w;
             flow = ap (λ (x : Left1 Woken (List ReaderHead)). x .result .flow) w;
             list = ap (λ (x : Left1 Woken (List ReaderHead)). x .first) w;
+            store = λ store lens c. c;
           }
 
   pub match-called : (i : ℕ) (r : Bool) (m : ℕ) → MatchCalled i r m s

@@ -1,7 +1,7 @@
 -- THE CALLS DO THE SYSTEM'S STEPS. For each event of the writer: what its calls answer and leave, by their own promises, on the records as the calls hold
 -- them, is the answer of the system's rows (0 just where the step isn't refused) and the records of the system's next state.
 -- A flow record is held as `flowForm`, the reader list as `listForm`, a reader's record as `form`: its head and four rooms. Assumes nothing.
-use Prim.Native.Nat.{ℕ}
+use Prim.Native.Nat.{ℕ, _*_}
 use mathlib.Core.Path.{_≡_}
 use mathlib.Core.Bool.{Bool, true, cond}
 use mathlib.Core.List.{List, [], _∷_, map}
@@ -38,38 +38,45 @@ use Rattle.writer_steps.specs.Write.{Kept, Written, writeStep}
 use Rattle.other_end.specs.Calls.{Call, gapAt, gapTo, askFrags, sentFrag, markSent, removeBefore, callRows}
 use Rattle.other_end.specs.System.{Line, Body, sample, gap, beat, ack, Msg, State, Event, match, depart, write, sentTo, evictTo, call, heartbeat, send, reply, deliver, find, nth, matchRows, departRows, newcomer, ackRows, writeRows, sentRows, evictRows, arrive, step, start}
 
--- A NEW WRITER and its list: what `new` gives, and slots that are all free
+-- A NEW WRITER and its list: what `new` gives, and slots that are all free. A lent store of the right size is coherent, whatever is in it
 pub record Starts (k : Kind) (l : Limits) (slots : ℕ) : Type 0 where
   pub flow : newWriterOf k l ≡ record { answer = done; flow = flowForm (start k l slots .flow) }
   pub list : listForm (start k l slots .heads) ≡ replicate slots freeSlot
+  pub store : (store lens : List ℕ) → length lens ≡ l .slots → length store ≡ l .slots * l .«slot_bytes» → isCoherentStore (flowForm (start k l slots .flow)) (length store) lens ≡ true
 
 -- the reader i is there in the state s′, as a line of which P holds
 abbrev pub Then : ℕ → State → (Line → Type 0) → Type 0
 Then i s′ P = (l′ : Line) × (find i (s′ .lines) ≡ some l′) × P l′
 
+-- from s to s′: a lent store that is coherent stays so, where it isn't written to
+abbrev pub StoreStays : State → State → Type 0
+StoreStays s s′ = (store lens : List ℕ) → isCoherentStore (flowForm (s .flow)) (length store) lens ≡ true → isCoherentStore (flowForm (s′ .flow)) (length store) lens ≡ true
+
 -- A MATCH AND A DEPARTURE: the answer, the flow record with the frontier stored, and the list
-pub record Lists (o : Left1 Woken (List ReaderHead)) (a : Answer) (s′ : State) : Type 0 where
+pub record Lists (o : Left1 Woken (List ReaderHead)) (a : Answer) (s s′ : State) : Type 0 where
   pub answer : o .result .told .answer ≡ a
   pub flow : o .result .flow ≡ flowForm (s′ .flow)
   pub list : o .first ≡ listForm (s′ .heads)
+  pub store : StoreStays s s′
 
 -- the record of a reader that is matched is a new one: its head is what `new` gives (its rooms are all zeros)
 abbrev pub MatchCalled : ℕ → Bool → ℕ → State → Type 0
 MatchCalled i r m s =
-    Lists (matchStep (listForm (s .heads)) (flowForm (s .flow)) (record { id = i; reliable = r; cap = m })) (answerOf (matchRows i m s)) (step (match i r m) s)
+    Lists (matchStep (listForm (s .heads)) (flowForm (s .flow)) (record { id = i; reliable = r; cap = m })) (answerOf (matchRows i m s)) s (step (match i r m) s)
     × (isDone (answerOf (matchRows i m s)) ≡ true → newOf m ≡ record { answer = done; proxy = proxyOf (newcomer i r m s .server) })
 
 abbrev pub DepartCalled : ℕ → State → Type 0
-DepartCalled i s = Lists (departStep (listForm (s .heads)) (flowForm (s .flow)) i) (answerOf (departRows i s)) (step (depart i) s)
+DepartCalled i s = Lists (departStep (listForm (s .heads)) (flowForm (s .flow)) i) (answerOf (departRows i s)) s (step (depart i) s)
 
 -- AN ACKNACK: besides, the reader's head, its unsent numbers and its gaps; its fragments aren't lent
-pub record Acks (o : Left3 AckStep (List ReaderHead) (List ℕ) (List ℕ)) (a : Answer) (s′ : State) (r′ : Reader) : Type 0 where
+pub record Acks (o : Left3 AckStep (List ReaderHead) (List ℕ) (List ℕ)) (a : Answer) (s s′ : State) (r′ : Reader) : Type 0 where
   pub answer : o .result .woken .told .answer ≡ a
   pub flow : o .result .woken .flow ≡ flowForm (s′ .flow)
   pub list : o .first ≡ listForm (s′ .heads)
   pub head : o .result .proxy ≡ proxyOf r′
   pub unsent : o .second ≡ unsentRoom r′
   pub gaps : o .third ≡ gapRoom r′
+  pub store : StoreStays s s′
 
 -- the set as the call takes it
 abbrev pub setForm : NumberSet → SequenceNumberSet
@@ -81,8 +88,8 @@ ackOn i z s r = ackStep (listForm (s .heads)) (flowForm (s .flow)) i (setForm z)
 -- from a reader that is there; and from one that isn't, whatever record is lent: nothing changes
 abbrev pub AckCalled : ℕ → NumberSet → State → Type 0
 AckCalled i z s =
-    ((l : Line) → find i (s .lines) ≡ some l → Then i (arrive i (ack z) s) (λ l′. Acks (ackOn i z s (l .server)) (answerOf (ackRows i z s)) (arrive i (ack z) s) (l′ .server)))
-    × (find i (s .lines) ≡ none → (r : Reader) → Valid r → Acks (ackOn i z s r) (answerOf (ackRows i z s)) s r × (arrive i (ack z) s ≡ s))
+    ((l : Line) → find i (s .lines) ≡ some l → Then i (arrive i (ack z) s) (λ l′. Acks (ackOn i z s (l .server)) (answerOf (ackRows i z s)) s (arrive i (ack z) s) (l′ .server)))
+    × (find i (s .lines) ≡ none → (r : Reader) → Valid r → Acks (ackOn i z s r) (answerOf (ackRows i z s)) s s r × (arrive i (ack z) s ≡ s))
 
 abbrev pub Arrives : ℕ → Body → State → Type 0
 Arrives i (ack z) s = AckCalled i z s
@@ -94,7 +101,8 @@ abbrev pub Delivers : Option Msg → State → Type 0
 Delivers none s = Unit {0}
 Delivers (some m) s = Arrives (m .line) (m .body) s
 
--- A WRITE, with any coherent store that is lent: the answer, the flow record, the number given, and each reader's head and unsent numbers
+-- A WRITE, with any coherent store that is lent: the answer, the flow record, the number given, each reader's head and unsent numbers, and a store that is
+-- coherent again
 abbrev pub keptForm : Line → Kept
 keptForm l = record { proxy = proxyOf (l .server); unsent = unsentRoom (l .server) }
 
@@ -103,6 +111,7 @@ pub record Writes (o : Written) (a : Answer) (s′ : State) : Type 0 where
   pub flow : o .writer .first ≡ flowForm (s′ .flow)
   pub number : isDone a ≡ true → o .writer .result .number ≡ numberAt (s′ .flow .last)
   pub readers : o .readers ≡ map keptForm (s′ .lines)
+  pub store : isCoherentStore (o .writer .first) (length (o .writer .second)) (o .writer .third) ≡ true
 
 abbrev pub WriteCalled : ℕ → Bool → State → Type 0
 WriteCalled len opted s =
@@ -111,10 +120,12 @@ WriteCalled len opted s =
 
 -- THE FRONTIERS AND EVICTION
 abbrev pub SentCalled : SequenceNumber → State → Type 0
-SentCalled n s = (sentOf (flowForm (s .flow)) n .result .answer ≡ answerOf (sentRows n s)) × (sentOf (flowForm (s .flow)) n .first ≡ flowForm (step (sentTo n) s .flow))
+SentCalled n s =
+    (sentOf (flowForm (s .flow)) n .result .answer ≡ answerOf (sentRows n s)) × (sentOf (flowForm (s .flow)) n .first ≡ flowForm (step (sentTo n) s .flow)) × StoreStays s (step (sentTo n) s)
 
 abbrev pub EvictCalled : SequenceNumber → State → Type 0
-EvictCalled n s = (evictOf (flowForm (s .flow)) n .result ≡ answerOf (evictRows n s)) × (evictOf (flowForm (s .flow)) n .first ≡ flowForm (step (evictTo n) s .flow))
+EvictCalled n s =
+    (evictOf (flowForm (s .flow)) n .result ≡ answerOf (evictRows n s)) × (evictOf (flowForm (s .flow)) n .first ≡ flowForm (step (evictTo n) s .flow)) × StoreStays s (step (evictTo n) s)
 
 -- THE OTHER CALLS ON A READER'S RECORD: the answer, and the record whole
 pub record Outcome : Type 0 where
