@@ -136,6 +136,15 @@ typedef struct { sintemuno_answer answer; size_t place; sintemuno_reader_head he
 typedef struct { sintemuno_answer answer; sintemuno_frontier frontier; } sintemuno_front;
 typedef struct { sintemuno_answer answer; sintemuno_sequence_number number; bool data; sintemuno_reader proxy; } sintemuno_sent;
 
+/* The layout that the library was built with. */
+#if defined(__STDC_VERSION__) && __STDC_VERSION__ >= 201112L
+_Static_assert(sizeof(size_t) == 8 && sizeof(bool) == 1, "Sintemuno is for x86-64");
+_Static_assert(sizeof(sintemuno_set) == 48 && sizeof(sintemuno_fragment_set) == 40, "a set");
+_Static_assert(sizeof(sintemuno_reader) == 48 && sizeof(sintemuno_reader_head) == 24, "a reader and its head");
+_Static_assert(sizeof(sintemuno_writer) == 80 && offsetof(sintemuno_writer, limits) == 40, "a writer");
+_Static_assert(sizeof(sintemuno_told) == 8 && sizeof(sintemuno_sent) == 72, "answers");
+#endif
+
 /* ==== one reader ==== */
 
 /* A new reader: nothing acknowledged, nothing unsent. 13 for a cap outside 1 to 1,024. */
@@ -152,7 +161,8 @@ sintemuno_changed sintemuno_reader_notify_new_cache_change(sintemuno_reader prox
 sintemuno_changed sintemuno_reader_mark_change_sent(sintemuno_reader proxy, uint64_t *unsent, size_t unsent_len, sintemuno_sequence_number number);
 sintemuno_changed sintemuno_reader_remove_from_unsent_set_all_before(sintemuno_reader proxy, uint64_t *unsent, size_t unsent_len, sintemuno_sequence_number before);
 
-/* The smallest unsent numbers, as many as `out` has room for, are written there and marked sent; `count` says how many. 1. */
+/* The smallest unsent numbers, as many as `out` has room for, are written there and marked sent; `count` says how many. The rest
+ * of `out` stays as it is. 1. */
 sintemuno_taken sintemuno_reader_take_unsent(sintemuno_reader proxy, uint64_t *unsent, size_t unsent_len, uint64_t *out, size_t out_len);
 
 /* An ACKNACK is taken; `last` is the last number written. `left_out`: the requests that found no room under the cap. 1, 3, 2, 12. */
@@ -179,15 +189,15 @@ sintemuno_told sintemuno_reader_repair_frags_requested(sintemuno_reader proxy, c
 
 /* ==== sets ==== */
 
-/* The set of the given numbers, in any order. 3 for one above base + 255; 2 for a negative base or a number below the base. */
+/* The set of the given numbers, in any order. 3 where one is base + 256 or more; 2 where one is below the base, or the base is negative. */
 sintemuno_written_numbers sintemuno_set_of_numbers(sintemuno_sequence_number base, const uint64_t *numbers, size_t numbers_len);
 sintemuno_written_fragments sintemuno_fragment_set_of_numbers(sintemuno_fragment_number base, const uint64_t *numbers, size_t numbers_len);
 
-/* The members, rising, as far as `out` holds them; `count` is how many they are in all. 3, and 2 for a negative base. */
+/* The members, rising, as far as `out` holds them, whose rest stays as it is; `count` is how many they are in all. 3; 2 for a negative base. */
 sintemuno_listed sintemuno_set_list_members(sintemuno_set set, uint64_t *out, size_t out_len);
 sintemuno_listed sintemuno_fragment_set_list_members(sintemuno_fragment_set set, uint64_t *out, size_t out_len);
 
-/* The smallest member at or after the cursor, and the cursor past it. 3, 2, 14. */
+/* The smallest member at or after the cursor, and the cursor past it. 3; 2 for a negative base; 14. */
 sintemuno_next_number sintemuno_set_next_member(sintemuno_set set, sintemuno_cursor at);
 sintemuno_next_fragment sintemuno_fragment_set_next_member(sintemuno_fragment_set set, sintemuno_cursor at);
 
@@ -205,11 +215,11 @@ sintemuno_numbered sintemuno_writer_admit(sintemuno_writer *flow, uint8_t *store
 /* Where the bytes of a retained sample lie in a store of `room` bytes: `length` bytes from `start` on. 1, 14. */
 sintemuno_located sintemuno_writer_locate(sintemuno_writer flow, size_t room, const uint64_t *lens, size_t lens_len, sintemuno_sequence_number number);
 
-/* The acknowledgement frontier is stored, the sent frontier raised; `yes`: wake who waits for room. 1, 2. */
+/* The acknowledgement frontier is stored, the sent frontier raised; `yes`: wake who waits for room. 1; 2 for one above last + 1, and above last. */
 sintemuno_told sintemuno_writer_set_acked_frontier(sintemuno_writer *flow, sintemuno_frontier frontier);
 sintemuno_told sintemuno_writer_set_sent_frontier(sintemuno_writer *flow, sintemuno_sequence_number number);
 
-/* What is retained below the number goes. 1, 2. */
+/* What is retained below the number goes. 1; 2 for a number above last + 1. */
 sintemuno_answer sintemuno_writer_remove_changes_before(sintemuno_writer *flow, sintemuno_sequence_number before);
 
 /* Whether every reliable reader has all through the number. 1. */
@@ -219,22 +229,25 @@ sintemuno_told sintemuno_writer_is_acked_through(sintemuno_writer flow, sintemun
 sintemuno_numbered sintemuno_writer_first_change_sequence_number(sintemuno_writer flow);
 sintemuno_numbered sintemuno_writer_last_change_sequence_number(sintemuno_writer flow);
 
-/* ==== the reader list ==== */
+/* ==== the reader list ====
+ * A match, a departure or an ACKNACK and the storing of the frontier are one step: no write may come between. So after
+ * sintemuno_list_matched_reader_add, or .._remove, or sintemuno_reader_handle_ack_nack and sintemuno_list_set_acked with the new head's
+ * all_acked_before, there follow sintemuno_list_frontier and sintemuno_writer_set_acked_frontier. */
 
-/* The smallest acked over the reliable readers, raised to 1 at least, or absent. Store it after each match, departure and ACKNACK. 1. */
+/* The smallest acked over the reliable readers, raised to 1 at least, or absent. 1. */
 sintemuno_front sintemuno_list_frontier(const sintemuno_reader_head *list, size_t list_len);
 
 /* Where a reader stands, and its head. 1, 11. */
 sintemuno_found sintemuno_list_matched_reader_lookup(const sintemuno_reader_head *list, size_t list_len, uint64_t id);
 
 /* A match: the first free slot takes the reader, with acked 0. 13, 1, 11, 8. */
-sintemuno_answer sintemuno_list_matched_reader_add(sintemuno_reader_head *list, size_t list_len, sintemuno_match match);
+sintemuno_answer sintemuno_list_matched_reader_add(sintemuno_reader_head *list, size_t list_len, sintemuno_match m);
 
 /* A departure: the reader's slot is free again. 1, 11. */
 sintemuno_answer sintemuno_list_matched_reader_remove(sintemuno_reader_head *list, size_t list_len, uint64_t id);
 
-/* One reader's acked is set. 1, 2, 11. */
-sintemuno_answer sintemuno_list_set_acked(sintemuno_reader_head *list, size_t list_len, sintemuno_acked acked);
+/* One reader's acked is set. 1; 2 for a negative one; 11. */
+sintemuno_answer sintemuno_list_set_acked(sintemuno_reader_head *list, size_t list_len, sintemuno_acked a);
 
 /* ==== the send step ==== */
 

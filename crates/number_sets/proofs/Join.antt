@@ -21,7 +21,7 @@ use Rattle.number_sets.proofs.Bit.{digit}
 use Rattle.number_sets.proofs.Eight.{Eight, eqb-same, words-are, bit-of, eight-words}
 
 -- bit j of 2 ^ k
-one-bit : (k j : ℕ) → 2 ^ k / 2 ^ j % 2 ≡ cond (eqb j k) 1 0
+pub one-bit : (k j : ℕ) → 2 ^ k / 2 ^ j % 2 ≡ cond (eqb j k) 1 0
 one-bit k j = go (eqb j k) refl (ltb j k) refl
   where
     go : (t : Bool) → eqb j k ≡ t → (u : Bool) → ltb j k ≡ u → 2 ^ k / 2 ^ j % 2 ≡ cond t 1 0
@@ -39,7 +39,7 @@ one-bit k j = go (eqb j k) refl (ltb j k) refl
         let h : k < j = omega (arith, ltb-false j k f, eqb-false j k e) in
         ap (λ (x : ℕ). x % 2) (div-eq-of-lt (pow-lt h))
 
-two : (n : ℕ) → (n % 2 ≡ 0) ⊎ (n % 2 ≡ 1)
+pub two : (n : ℕ) → (n % 2 ≡ 0) ⊎ (n % 2 ≡ 1)
 two n = go (n % 2) (omega arith)
   where
     go : (r : ℕ) → r < 2 → (r ≡ 0) ⊎ (r ≡ 1)

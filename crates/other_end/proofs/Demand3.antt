@@ -8,7 +8,9 @@ use lib.Dec.{ltb}
 use native.Mathlib.Omega.{arith}
 use borrow.Author.Tests.{ltb-true}
 use Rattle.sets.specs.Sets.{has}
-use Rattle.numbers.specs.Number.{topNumber}
+use Rattle.reader_record.proofs.Whole.{form-coherent}
+use Rattle.writer_send_buffer.proofs.Window.{no-trim-with-readers}
+use Rattle.writer_send_buffer.proofs.Steps.{form-coherent as flow-coherent}
 use Rattle.other_end.specs.Model.{base}
 use Rattle.other_end.specs.System.{Line, State, start}
 use Rattle.other_end.specs.Rounds.{Round, Rounds, cleanRound, cleanRounds}
@@ -16,11 +18,10 @@ use Rattle.other_end.specs.Coherent.{Coherent}
 use Rattle.other_end.specs.Demand3.{Reached, Present, Kept, HasData, HasSettled, Moved, roundsFor, Demand3}
 use Rattle.other_end.proofs.Gaps.{gap-ge, gap-all, gap-not}
 use Rattle.other_end.proofs.Heads.{frontier-low}
-use Rattle.other_end.proofs.Records.{fits-more}
-use Rattle.other_end.proofs.Flows.{no-trim}
-use Rattle.other_end.proofs.Tests.{passes-tests, flow-coherent}
+use Rattle.other_end.proofs.Forms.{list-coherent}
 use Rattle.other_end.proofs.Fine.{Fine, base-pos}
 use Rattle.other_end.proofs.Sound.{Sound, sound-run, sound-start}
+use Rattle.other_end.proofs.AsCalled.{as-called}
 use Rattle.other_end.proofs.Round.{round-moves}
 use Rattle.other_end.proofs.OneByOne.{one-round}
 use Rattle.other_end.proofs.Rounds.{reached-round, levelled, enough}
@@ -33,9 +34,10 @@ coherent s r =
     let h = sound s r in
     record {
       flow = flow-coherent (s .flow) (h .flow);
-      list = h .list;
-      readers = λ i l e. let f = fits-more (s .flow .last) topNumber (l .server) (h .flow .last) (h .lines i l e .fits) in (f, passes-tests (l .server) f);
+      list = list-coherent (s .flow .last) (s .heads) (h .flow .last-most) (h .low) (h .list);
+      readers = λ i l e. (h .lines i l e .valid, form-coherent (l .server) (h .lines i l e .valid));
       heads = λ i l e. (h .held i l e .there, h .held i l e .head);
+      records = h .known;
       frontier = frontier-low (s .flow .last) (s .heads) (h .low);
     }
 
@@ -55,7 +57,7 @@ module _ (s : State) (i : ℕ) (l : Line) (p : Present s i l) where
         v .line,
         record { reached = v .reached; there = v .found; anew = v .anew ∙ p .anew },
         v .last,
-        λ n e q. let z = v .on (suc (s .flow .last)) (omega arith) (enough (base (l .model)) n (min 256 (l .server .cap)) r (suc (s .flow .last)) (omega (arith, fine .fits .cap-low)) e q) in omega (arith, z, v .within),
+        λ n e q. let z = v .on (suc (s .flow .last)) (omega arith) (enough (base (l .model)) n (min 256 (l .server .cap)) r (suc (s .flow .last)) (omega (arith, fine .valid .cap-low)) e q) in omega (arith, z, v .within),
         λ q. v .agrees (λ e. absurd (omega arith)),
       )
 
@@ -94,11 +96,12 @@ demand-3 =
           let w : t < s .flow .acked = ltb-true t (s .flow .acked) (sym (ap (λ (p : Bool). not p || ltb t (s .flow .acked)) (f .0)) ∙ y) in
           below s i l k n a (omega (arith, f .1, w));
       evicted = λ s i l k n a q. below s i l k n a (omega (arith, kept s i l k .0));
-      untrimmed = λ s i l k opted. no-trim (s .flow) opted (k .writer) (fine s i l (k .present) .front (k .reliable) .0);
+      untrimmed = λ s i l k opted. no-trim-with-readers (s .flow) opted (k .writer) (fine s i l (k .present) .front (k .reliable) .0);
       round = λ s s′ i l p d. round s i l p s′ d;
       one-by-one = λ s i l p. one-round i l s (sound s (p .reached)) (p .there);
       told = λ s i l p n a q. told s i l p n a (omega arith);
       level = λ s s′ i r l p d. level s i l p s′ r d;
       always = λ s i l p r. always r s i l p;
       coherent = coherent;
+      calls = λ s r e. as-called s (sound s r) e;
     }

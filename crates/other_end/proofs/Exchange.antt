@@ -17,9 +17,10 @@ use Rattle.numbers.specs.Refusals.{row, rowsOf}
 use Rattle.number_sets.specs.Bits.{NumberSet, members}
 use Rattle.rtps_reader_proxy.specs.Reader.{baseOf, isAhead, acknowledge, markedSent}
 use Rattle.reader_list.specs.Readers.{isThere}
+use Rattle.reader_list.specs.Slots.{unknown}
 use Rattle.writer_send_buffer.specs.Flow.{retained}
 use Rattle.other_end.specs.Model.{Model, gotData, gotGap, gotBeat, base, bits, asked, ackNack}
-use Rattle.other_end.specs.System.{Line, Body, sample, gap, beat, ack, Msg, State, Event, match, depart, write, sentTo, evictTo, call, heartbeat, send, reply, deliver, find, upd, nth, onServer, onModel, withLines, post, tried, unknown, acknowledges, arrive, arrives, sendFirst, sendTo, beatTo, replyFrom, step, run}
+use Rattle.other_end.specs.System.{Line, Body, sample, gap, beat, ack, Msg, State, Event, match, depart, write, sentTo, evictTo, call, heartbeat, send, reply, deliver, find, upd, nth, onServer, onModel, withLines, post, tried, acknowledges, arrive, arrives, sendFirst, sendTo, beatTo, replyFrom, step, run}
 use Rattle.other_end.specs.Rounds.{Exchange, SettledAt, Received}
 use Rattle.other_end.proofs.Gaps.{asks}
 use Rattle.other_end.proofs.Found.{some-msg, find-same}
@@ -50,7 +51,7 @@ module _ (i : ℕ) (l : Line) (n : ℕ) (s : State) (a : At i l n s) where
   pub at-ack : Held (s .heads) i l → base (l .model) ≤ suc n → At i (onServer (acknowledge n (base (l .model)) (asked (l .model))) l) n (run (reply i ∷ deliver 0 ∷ []) s)
   at-ack o q =
       subst (λ (o : Option Line). At i l′ n (step (deliver 0) (replyFrom i o s))) (sym (a .found))
-      (subst (λ (y : State). At i l′ n y) (sym (ack-done (ltb 256 (bits (l .model))) (unknown i s) (isAhead (s .flow .last) b) (post i (ack z) s) (acknowledges i z (post i (ack z) s)) (le-ltb 256 (bits (l .model)) (omega arith)) known near))
+      (subst (λ (y : State). At i l′ n y) (sym (ack-done (ltb 256 (bits (l .model))) (unknown i (s .heads)) (isAhead (s .flow .last) b) (post i (ack z) s) (acknowledges i z (post i (ack z) s)) (le-ltb 256 (bits (l .model)) (omega arith)) known near))
       (record {
         found =
             find-same i (onServer (acknowledge (s .flow .last) b (members z))) (λ x. refl) (s .lines) l (a .found)
@@ -68,7 +69,7 @@ module _ (i : ℕ) (l : Line) (n : ℕ) (s : State) (a : At i l n s) where
       l′ : Line
       l′ = onServer (acknowledge n (base (l .model)) (asked (l .model))) l
 
-      known : unknown i s ≡ false
+      known : unknown i (s .heads) ≡ false
       known = ap (λ (t : Bool). t || not (isThere i (s .heads))) (ne-eqb i 0 (o .some-id)) ∙ ap not (o .there)
 
       near : isAhead (s .flow .last) (base (l .model)) ≡ false

@@ -7,20 +7,25 @@ use mathlib.Core.List.{List, _∷_}
 use mathlib.Core.Option.{some}
 use lib.Dec.{eqb}
 use native.Mathlib.Omega.{arith}
+use borrow.Author.Tests.{ltb-false}
 use Rattle.sets.specs.Sets.{has, From, insert}
 use Rattle.sets.proofs.Bools.{or-right, decide}
 use Rattle.sets.proofs.Has.{has-insert, From-insert, From-only}
+use Rattle.numbers.specs.Number.{topNumber}
 use Rattle.numbers.specs.Refusals.{answerOf, isDone}
-use Rattle.rtps_reader_proxy.specs.Reader.{Reader, baseOf, ackedAfter, acknowledge, notified, markedSent}
+use Rattle.number_sets.specs.Bits.{NumberSet, members}
+use Rattle.number_sets.proofs.Meaning.{members-rise}
+use Rattle.rtps_reader_proxy.specs.Reader.{Reader, baseOf, isAhead, ackedAfter, acknowledge, notified, markedSent}
+use Rattle.reader_record.specs.Whole.{Valid}
+use Rattle.reader_record.proofs.Kept.{notified-valid, marked-valid, acknowledged-valid}
 use Rattle.writer_send_buffer.specs.Flow.{Flow}
 use Rattle.other_end.specs.Model.{gapFrom, gotData, gotGap, gotBeat, base}
 use Rattle.other_end.specs.Calls.{Call, result, callRows}
 use Rattle.other_end.specs.System.{Line, Body, sample, gap, beat, ack, Msg, nth, onServer, onModel}
-use Rattle.other_end.specs.Coherent.{ReaderFits}
 use Rattle.other_end.proofs.Gaps.{gap-ge, gap-le, gap-mono}
 use Rattle.other_end.proofs.Found.{some-msg}
-use Rattle.other_end.proofs.Records.{in-insert, Above, fits-only, fits-notified, above-notified, fits-acked, above-acked}
-use Rattle.other_end.proofs.Calls.{call-acked, above-call, fits-call}
+use Rattle.other_end.proofs.Records.{in-insert, Above, Within, within-only, within-notified, above-notified, within-acked, above-acked}
+use Rattle.other_end.proofs.Calls.{call-acked, above-call, within-call, valid-call}
 
 -- a line matched before the first write, with an id not matched before, and reliable; and: the writer is reliable and has evicted up to the frontier only
 abbrev pub Early : Line → Type 0
@@ -34,7 +39,7 @@ abbrev pub Sane : ℕ → Body → Type 0
 Sane last (sample n) = (1 ≤ n) × (n ≤ last)
 Sane last (gap n) = (1 ≤ n) × (n ≤ last)
 Sane last (beat k) = k ≤ last
-Sane last (ack z) = Unit {0}
+Sane last (ack z) = z .base ≤ suc last
 
 -- of every message to or from a line whose id was not matched before
 abbrev pub Good : Flow → Bool → Line → Body → Type 0
@@ -47,7 +52,8 @@ pub record Fine (f : Flow) (c : Bool) (net : List Msg) (l : Line) : Type 0 where
   pub rise : From 1 (l .model .settled)
   pub top : (n : ℕ) → has (l .model .settled) n ≡ true → n ≤ f .last
   pub known : l .model .known ≤ f .last
-  pub fits : ReaderFits (f .last) (l .server)
+  pub valid : Valid (l .server)
+  pub within : Within (f .last) (l .server)
   pub above : Above (l .server)
   pub credit : l .anew ≡ true → l .server .acked ≤ base (l .model)
   pub front : l .reliable ≡ true → (f .present ≡ true) × (f .acked ≤ max 1 (l .server .acked))
@@ -58,7 +64,7 @@ pub sane-more : (a b : ℕ) → a ≤ b → (m : Body) → Sane a m → Sane b m
 sane-more a b q (sample n) g = (g .0, omega (arith, g .1))
 sane-more a b q (gap n) g = (g .0, omega (arith, g .1))
 sane-more a b q (beat k) g = omega (arith, g)
-sane-more a b q (ack z) g = tt
+sane-more a b q (ack z) g = omega (arith, g)
 
 module _ (f : Flow) (c : Bool) (net : List Msg) (l : Line) (h : Fine f c net l) where
   pub base-pos : 1 ≤ base (l .model)
@@ -101,7 +107,8 @@ module _ (f : Flow) (c : Bool) (net : List Msg) (l : Line) (h : Fine f c net l) 
         rise = From-insert 1 n (l .model .settled) p (h .rise);
         top = settle-top n q;
         known = omega (arith, h .known);
-        fits = h .fits;
+        valid = h .valid;
+        within = h .within;
         above = h .above;
         credit = λ a. omega (arith, h .credit a, settle-base n p);
         front = h .front;
@@ -121,7 +128,8 @@ module _ (f : Flow) (c : Bool) (net : List Msg) (l : Line) (h : Fine f c net l) 
         rise = h .rise;
         top = h .top;
         known = omega (arith, h .known);
-        fits = h .fits;
+        valid = h .valid;
+        within = h .within;
         above = h .above;
         credit = h .credit;
         front = h .front;
@@ -132,13 +140,14 @@ module _ (f : Flow) (c : Bool) (net : List Msg) (l : Line) (h : Fine f c net l) 
   -- WHAT HAPPENS TO ITS RECORD
 
   -- a change that leaves acked
-  fine-server : (g : Reader → Reader) → g (l .server) .acked ≡ l .server .acked → ReaderFits (f .last) (g (l .server)) → Above (g (l .server)) → Fine f c net (onServer g l)
-  fine-server g e fit ab =
+  fine-server : (g : Reader → Reader) → g (l .server) .acked ≡ l .server .acked → Valid (g (l .server)) → Within (f .last) (g (l .server)) → Above (g (l .server)) → Fine f c net (onServer g l)
+  fine-server g e v w ab =
       record {
         rise = h .rise;
         top = h .top;
         known = h .known;
-        fits = fit;
+        valid = v;
+        within = w;
         above = ab;
         credit = λ a. omega (arith, h .credit a, e);
         front = λ r. (h .front r .0, omega (arith, h .front r .1, e));
@@ -148,40 +157,45 @@ module _ (f : Flow) (c : Bool) (net : List Msg) (l : Line) (h : Fine f c net l) 
 
   pub fine-sent : (n : ℕ) → Fine f c net (onServer (markedSent n) l)
   fine-sent n =
-      fine-server (markedSent n) refl (fits-only (f .last) (l .server) (h .fits) (λ k. not (eqb n k)))
+      fine-server (markedSent n) refl (marked-valid (l .server) (h .valid) n) (within-only (f .last) (l .server) (h .within) (λ k. not (eqb n k)))
       (From-only (max 1 (l .server .acked)) (λ k. not (eqb n k)) (l .server .unsent) (h .above))
 
-  pub fine-call : (d : Call) → isDone (answerOf (callRows (f .last) d (l .server))) ≡ true → Fine f c net (onServer (result d) l)
-  fine-call d e = fine-server (result d) (call-acked d (l .server)) (fits-call (f .last) (l .server) (h .fits) d e) (above-call d (l .server) (h .above))
+  pub fine-call : (d : Call) → f .last ≤ topNumber → isDone (answerOf (callRows (f .last) d (l .server))) ≡ true → Fine f c net (onServer (result d) l)
+  fine-call d q e =
+      fine-server (result d) (call-acked d (l .server)) (valid-call (f .last) (l .server) (h .valid) d q e) (within-call d (f .last) (l .server) (h .within)) (above-call d (l .server) (h .above))
 
   -- an acknowledgement; `f′` is the flow with the frontier stored
-  pub fine-ack : (f′ : Flow) (b : ℕ) (ms : List ℕ) → f′ .last ≡ f .last → f′ .first ≡ f .first → (Trusted f′ c → Trusted f c) → baseOf b ≤ suc (f .last)
-      → (l .anew ≡ true → b ≤ base (l .model))
-      → (l .reliable ≡ true → (f′ .present ≡ true) × (f′ .acked ≤ max 1 (ackedAfter (l .server .acked) b)))
-      → Fine f′ c net (onServer (acknowledge (f .last) b ms) l)
-  fine-ack f′ b ms p q t w g fr =
+  pub fine-ack : (f′ : Flow) (z : NumberSet) → f .last ≤ topNumber → f′ .last ≡ f .last → f′ .first ≡ f .first → (Trusted f′ c → Trusted f c) → isAhead (f .last) (z .base) ≡ false
+      → (l .anew ≡ true → z .base ≤ base (l .model))
+      → (l .reliable ≡ true → (f′ .present ≡ true) × (f′ .acked ≤ max 1 (ackedAfter (l .server .acked) (z .base))))
+      → Fine f′ c net (onServer (acknowledge (f .last) (z .base) (members z)) l)
+  fine-ack f′ z top p q t w g fr =
       record {
         rise = h .rise;
         top = λ n e. omega (arith, h .top n e, p);
         known = omega (arith, h .known, p);
-        fits = subst (λ (n : ℕ). ReaderFits n (acknowledge (f .last) b ms (l .server))) (sym p) (fits-acked (f .last) (l .server) (h .fits) b ms w (h .above));
-        above = above-acked (f .last) (l .server) (h .fits) b ms (h .above);
+        valid = acknowledged-valid (l .server) (h .valid) (f .last) (z .base) (z .base) (members z) (members-rise z) top w;
+        within =
+            subst (λ (n : ℕ). Within n (acknowledge (f .last) (z .base) (members z) (l .server))) (sym p)
+            (within-acked (f .last) (l .server) (h .within) (z .base) (members z) (ltb-false (suc (f .last)) (baseOf (z .base)) w));
+        above = above-acked (f .last) (l .server) (h .within) (z .base) (members z) (h .above);
         credit = λ a. omega (arith, h .credit a, base-pos, g a);
         front = fr;
         kept = λ u k. (omega (arith, h .kept (t u) k .0, q), h .kept (t u) k .1);
-        mail = λ a k m e i. good-more f′ c (onServer (acknowledge (f .last) b ms) l) t refl refl refl (omega arith) (m .body) (h .mail a k m e i);
+        mail = λ a k m e i. good-more f′ c (onServer (acknowledge (f .last) (z .base) (members z)) l) t refl refl refl (omega arith) (m .body) (h .mail a k m e i);
       }
 
   -- a new sample's number, last + 1
-  pub fine-notified : (f′ : Flow) → f′ .last ≡ f .last + 1 → f′ .present ≡ f .present → f′ .acked ≡ f .acked → (Trusted f′ c → Trusted f c) → (Trusted f′ c → Early l → f′ .first ≡ f .first)
+  pub fine-notified : (f′ : Flow) → f′ .last ≤ topNumber → f′ .last ≡ f .last + 1 → f′ .present ≡ f .present → f′ .acked ≡ f .acked → (Trusted f′ c → Trusted f c) → (Trusted f′ c → Early l → f′ .first ≡ f .first)
       → Fine f′ c net (onServer (notified (f .last + 1)) l)
-  fine-notified f′ p pr ac t fi =
+  fine-notified f′ top p pr ac t fi =
       record {
         rise = h .rise;
         top = λ n e. omega (arith, h .top n e, p);
         known = omega (arith, h .known, p);
-        fits = subst (λ (n : ℕ). ReaderFits n (notified (f .last + 1) (l .server))) (sym p) (fits-notified (f .last) (l .server) (h .fits));
-        above = above-notified (f .last) (l .server) (h .fits) (h .above);
+        valid = notified-valid (l .server) (h .valid) (f .last + 1) (omega arith) (omega (arith, p, top));
+        within = subst (λ (n : ℕ). Within n (notified (f .last + 1) (l .server))) (sym p) (within-notified (f .last) (l .server) (h .within));
+        above = above-notified (f .last) (l .server) (h .within) (h .above);
         credit = h .credit;
         front = λ r. (pr ∙ h .front r .0, omega (arith, h .front r .1, ac));
         kept = λ u k. (omega (arith, h .kept (t u) k .0, fi u k), h .kept (t u) k .1);
@@ -200,7 +214,8 @@ module _ (f : Flow) (c : Bool) (net : List Msg) (l : Line) (h : Fine f c net l) 
         rise = h .rise;
         top = λ n e. omega (arith, h .top n e, p);
         known = omega (arith, h .known, p);
-        fits = subst (λ (n : ℕ). ReaderFits n (l .server)) (sym p) (h .fits);
+        valid = h .valid;
+        within = subst (λ (n : ℕ). Within n (l .server)) (sym p) (h .within);
         above = h .above;
         credit = h .credit;
         front = fr;
@@ -215,7 +230,8 @@ module _ (f : Flow) (c : Bool) (net : List Msg) (l : Line) (h : Fine f c net l) 
         rise = h .rise;
         top = h .top;
         known = h .known;
-        fits = h .fits;
+        valid = h .valid;
+        within = h .within;
         above = h .above;
         credit = h .credit;
         front = h .front;

@@ -1,5 +1,4 @@
--- The reader list: what stands in it for an id after a match, a departure or an acknowledgement, that it stays coherent, and the frontier against each of
--- its heads. Assumes nothing.
+-- The reader list: what stands in it for an id after a match, a departure or an acknowledgement, and the frontier against each of its heads. Assumes nothing.
 use Prim.Native.Nat.{ℕ, zero, suc, _+_, _≤_, max}
 use mathlib.Core.Path.{_≡_, refl, sym, ap, subst, _∙_}
 use mathlib.Core.Bool.{Bool, true, false, not, cond, _&&_, _||_, true≢false, false≢true}
@@ -8,10 +7,12 @@ use mathlib.Core.List.{List, [], _∷_}
 use lib.Dec.{ltb, leb, eqb}
 use lib.ListN.{length, getD, set, replicate, length-set, length-replicate}
 use native.Mathlib.Omega.{arith}
-use borrow.Author.Tests.{ltb-true, ltb-false, lt-ltb, le-ltb, le-leb, eqb-true, eqb-false, eq-eqb, ne-eqb, not-true}
+use borrow.Author.Tests.{le-leb, eqb-true, eqb-false, eq-eqb, ne-eqb, not-true}
 use Rattle.sets.proofs.Bools.{and-left, and-right, and-both, or-right, clash, decide}
 use Rattle.reader_list.proofs.Gather.{place-there}
-use Rattle.reader_list.specs.Readers.{Head, free, meet, frontier, placeOf, isThere, headAt, acknowledged, slotFits, slotsFit, different, fits}
+use Rattle.reader_list.proofs.Smallest.{at-most-each}
+use Rattle.reader_list.specs.Readers.{Head, free, meet, frontier, placeOf, isThere, headAt, departed, slotsFit, different, fits}
+use Rattle.reader_list.specs.Slots.{unknown}
 
 -- the id is there if it stands first or further on
 pub there-is : (i : ℕ) (h : Head) (hs : List Head) → isThere i (h ∷ hs) ≡ (eqb (h .id) i || isThere i hs)
@@ -80,86 +81,47 @@ set-own k x (y ∷ ys) h w = go (eqb (y .id) k) refl (sym (there-is k y ys) ∙ 
           ap (λ (t : Bool). getD (y ∷ set ys (placeOf k ys) x) (cond t 0 (suc (placeOf (x .id) (set ys (placeOf k ys) x)))) free) (off e w) ∙ o .1,
         )
 
--- COHERENCE
-
-pub slots-set : (hs : List Head) (p : ℕ) (x : Head) → slotFits x ≡ true → slotsFit hs ≡ true → slotsFit (set hs p x) ≡ true
-slots-set [] p x f h = refl
-slots-set (y ∷ ys) zero x f h = and-both (slotFits x) (slotsFit ys) f (and-right (slotFits y) (slotsFit ys) h)
-slots-set (y ∷ ys) (suc p) x f h = and-both (slotFits y) (slotsFit (set ys p x)) (and-left (slotFits y) (slotsFit ys) h) (slots-set ys p x f (and-right (slotFits y) (slotsFit ys) h))
-
--- an id that is not there does not come by another's head
-absent-set : (j : ℕ) (hs : List Head) (p : ℕ) (x : Head) → (x .id ≡ j → ⊥) → isThere j hs ≡ false → isThere j (set hs p x) ≡ false
-absent-set j [] p x d h = h
-absent-set j (y ∷ ys) zero x d h = there-is j x ys ∙ tail (eqb (y .id) j) (sym (there-is j y ys) ∙ h)
+-- a reader that is known has an id from 1 on, and is there; one that departed is not
+pub known-is : (i : ℕ) (hs : List Head) → unknown i hs ≡ false → ((i ≡ 0) → ⊥) × (isThere i hs ≡ true)
+known-is i hs e = go (eqb i 0) refl (isThere i hs) refl e
   where
-    tail : (t : Bool) → (t || isThere j ys) ≡ false → (eqb (x .id) j || isThere j ys) ≡ false
-    tail true e = absurd (true≢false e)
-    tail false e = ap (λ (t : Bool). t || isThere j ys) (ne-eqb (x .id) j d) ∙ e
-absent-set j (y ∷ ys) (suc p) x d h = there-is j y (set ys p x) ∙ tail (eqb (y .id) j) (sym (there-is j y ys) ∙ h) (absent-set j ys p x d)
+    go : (t : Bool) → eqb i 0 ≡ t → (u : Bool) → isThere i hs ≡ u → (t || not u) ≡ false → ((i ≡ 0) → ⊥) × (isThere i hs ≡ true)
+    go false p true q e = (eqb-false i 0 p, q)
+    go false p false q e = absurd (true≢false e)
+    go true p u q e = absurd (true≢false e)
+
+pub is-known : (i : ℕ) (hs : List Head) → (i ≡ 0 → ⊥) → isThere i hs ≡ true → unknown i hs ≡ false
+is-known i hs d e = ap (λ (t : Bool). t || not (isThere i hs)) (ne-eqb i 0 d) ∙ ap not e
+
+pub gone : (i : ℕ) → (i ≡ 0 → ⊥) → (hs : List Head) → different hs ≡ true → isThere i (departed i hs) ≡ false
+gone i d [] e = refl
+gone i d (y ∷ ys) e = go (eqb (y .id) i) refl (gone i d ys (and-right (eqb (y .id) 0 || not (isThere (y .id) ys)) (different ys) e))
   where
-    tail : (t : Bool) → (t || isThere j ys) ≡ false → (isThere j ys ≡ false → isThere j (set ys p x) ≡ false) → (t || isThere j (set ys p x)) ≡ false
-    tail true e r = absurd (true≢false e)
-    tail false e r = r e
+    alone : y .id ≡ i → isThere i ys ≡ false
+    alone q =
+        subst (λ (k : ℕ). isThere k ys ≡ false) q
+        (not-true (isThere (y .id) ys)
+        (sym (ap (λ (t : Bool). t || not (isThere (y .id) ys)) (ne-eqb (y .id) 0 (λ (z : y .id ≡ 0). d (sym q ∙ z)))) ∙ and-left (eqb (y .id) 0 || not (isThere (y .id) ys)) (different ys) e))
 
--- a head that may come into the slot of k: a free one, one with that id, or one with an id that is not there
-abbrev pub MayCome : ℕ → Head → List Head → Type 0
-MayCome k x hs = (x .id ≡ 0) ⊎ ((x .id ≡ k) ⊎ (isThere (x .id) hs ≡ false))
+    go : (t : Bool) → eqb (y .id) i ≡ t → isThere i (departed i ys) ≡ false → isThere i (set (y ∷ ys) (cond t 0 (suc (placeOf i ys))) free) ≡ false
+    go true q r = there-is i free ys ∙ ap (λ (t : Bool). t || isThere i ys) (ne-eqb 0 i (λ (z : 0 ≡ i). d (sym z))) ∙ alone (eqb-true (y .id) i q)
+    go false q r = there-is i y (departed i ys) ∙ ap (λ (t : Bool). t || isThere i (departed i ys)) q ∙ r
 
-absent-both : (j : ℕ) (y : Head) (ys : List Head) → isThere j (y ∷ ys) ≡ false → ((y .id ≡ j) → ⊥) × (isThere j ys ≡ false)
-absent-both j y ys h = go (eqb (y .id) j) refl (sym (there-is j y ys) ∙ h)
-  where
-    go : (t : Bool) → eqb (y .id) j ≡ t → (t || isThere j ys) ≡ false → ((y .id ≡ j) → ⊥) × (isThere j ys ≡ false)
-    go true f e = absurd (true≢false e)
-    go false f e = (eqb-false (y .id) j f, e)
+pub free-none : (i n : ℕ) → (i ≡ 0 → ⊥) → isThere i (replicate n free) ≡ false
+free-none i zero d = refl
+free-none i (suc n) d = there-is i free (replicate n free) ∙ ap (λ (t : Bool). t || isThere i (replicate n free)) (ne-eqb 0 i (λ (z : 0 ≡ i). d (sym z))) ∙ free-none i n d
 
-pub different-set : (k : ℕ) (x : Head) (hs : List Head) → MayCome k x hs → different hs ≡ true → different (set hs (placeOf k hs) x) ≡ true
-different-set k x [] w h = refl
-different-set k x (y ∷ ys) w h =
-    go (eqb (y .id) k) refl (and-left (eqb (y .id) 0 || not (isThere (y .id) ys)) (different ys) h) (and-right (eqb (y .id) 0 || not (isThere (y .id) ys)) (different ys) h) w (different-set k x ys)
-  where
-    alone : (z : Bool) → eqb (y .id) 0 ≡ z → (z || not (isThere (y .id) ys)) ≡ true → y .id ≡ k → x .id ≡ k → (eqb (x .id) 0 || not (isThere (x .id) ys)) ≡ true
-    alone z f g q p = subst (λ (n : ℕ). (eqb n 0 || not (isThere n ys)) ≡ true) (q ∙ sym p) (ap (λ (t : Bool). t || not (isThere (y .id) ys)) f ∙ g)
+-- COHERENCE, and that of a new list
 
-    first : y .id ≡ k → (eqb (y .id) 0 || not (isThere (y .id) ys)) ≡ true → MayCome k x (y ∷ ys) → (eqb (x .id) 0 || not (isThere (x .id) ys)) ≡ true
-    first q g (inl p) = ap (λ (t : Bool). t || not (isThere (x .id) ys)) (eq-eqb (x .id) 0 p)
-    first q g (inr (inl p)) = alone (eqb (y .id) 0) refl g q p
-    first q g (inr (inr p)) = or-right (eqb (x .id) 0) (not (isThere (x .id) ys)) (ap not (absent-both (x .id) y ys p .1))
-
-    later : (z : Bool) → eqb (y .id) 0 ≡ z → (y .id ≡ k → ⊥) → (z || not (isThere (y .id) ys)) ≡ true → MayCome k x (y ∷ ys) → (z || not (isThere (y .id) (set ys (placeOf k ys) x))) ≡ true
-    later true f n g w = refl
-    later false f n g w = ap not (absent-set (y .id) ys (placeOf k ys) x (away w) (not-true (isThere (y .id) ys) g))
-      where
-        away : MayCome k x (y ∷ ys) → x .id ≡ y .id → ⊥
-        away (inl p) e = eqb-false (y .id) 0 f (sym e ∙ p)
-        away (inr (inl p)) e = n (sym e ∙ p)
-        away (inr (inr p)) e = absent-both (x .id) y ys p .0 (sym e)
-
-    on : MayCome k x (y ∷ ys) → MayCome k x ys
-    on (inl p) = inl p
-    on (inr (inl p)) = inr (inl p)
-    on (inr (inr p)) = inr (inr (absent-both (x .id) y ys p .1))
-
-    go : (t : Bool) → eqb (y .id) k ≡ t → (eqb (y .id) 0 || not (isThere (y .id) ys)) ≡ true → different ys ≡ true → MayCome k x (y ∷ ys)
-        → (MayCome k x ys → different ys ≡ true → different (set ys (placeOf k ys) x) ≡ true) → different (set (y ∷ ys) (cond t 0 (suc (placeOf k ys))) x) ≡ true
-    go true e a b w r = and-both (eqb (x .id) 0 || not (isThere (x .id) ys)) (different ys) (first (eqb-true (y .id) k e) a w) b
-    go false e a b w r = and-both (eqb (y .id) 0 || not (isThere (y .id) (set ys (placeOf k ys) x))) (different (set ys (placeOf k ys) x)) (later (eqb (y .id) 0) refl (eqb-false (y .id) k e) a w) (r (on w) b)
-
-all-fit : (hs : List Head) → leb 1 (length hs) ≡ true → leb (length hs) 64 ≡ true → slotsFit hs ≡ true → different hs ≡ true → fits hs ≡ true
-all-fit hs n o f d =
-    and-both (leb 1 (length hs)) (leb (length hs) 64 && (slotsFit hs && different hs)) n (and-both (leb (length hs) 64) (slotsFit hs && different hs) o (and-both (slotsFit hs) (different hs) f d))
-
-pub fits-set : (k : ℕ) (x : Head) (hs : List Head) → slotFits x ≡ true → MayCome k x hs → fits hs ≡ true → fits (set hs (placeOf k hs) x) ≡ true
-fits-set k x hs f w h =
-    let n = and-left (leb 1 (length hs)) (leb (length hs) 64 && (slotsFit hs && different hs)) h in
-    let r = and-right (leb 1 (length hs)) (leb (length hs) 64 && (slotsFit hs && different hs)) h in
-    let o = and-left (leb (length hs) 64) (slotsFit hs && different hs) r in
-    let m = and-right (leb (length hs) 64) (slotsFit hs && different hs) r in
-    all-fit (set hs (placeOf k hs) x) (subst (λ (c : ℕ). leb 1 c ≡ true) (sym (length-set hs (placeOf k hs) x)) n) (subst (λ (c : ℕ). leb c 64 ≡ true) (sym (length-set hs (placeOf k hs) x)) o)
-    (slots-set hs (placeOf k hs) x f (and-left (slotsFit hs) (different hs) m)) (different-set k x hs w (and-right (slotsFit hs) (different hs) m))
+pub fits-different : (hs : List Head) → fits hs ≡ true → different hs ≡ true
+fits-different hs e =
+    and-right (slotsFit hs) (different hs)
+    (and-right (leb (length hs) 64) (slotsFit hs && different hs) (and-right (leb 1 (length hs)) (leb (length hs) 64 && (slotsFit hs && different hs)) e))
 
 pub fits-free : (n : ℕ) → 1 ≤ n → n ≤ 64 → fits (replicate n free) ≡ true
 fits-free n p q =
-    all-fit (replicate n free) (subst (λ (c : ℕ). leb 1 c ≡ true) (sym (length-replicate n free)) (le-leb 1 n p)) (subst (λ (c : ℕ). leb c 64 ≡ true) (sym (length-replicate n free)) (le-leb n 64 q)) (all n) (apart n)
+    and-both (leb 1 (length (replicate n free))) _ (ap (leb 1) (length-replicate n free) ∙ le-leb 1 n p)
+    (and-both (leb (length (replicate n free)) 64) _ (ap (λ (c : ℕ). leb c 64) (length-replicate n free) ∙ le-leb n 64 q) (and-both (slotsFit (replicate n free)) (different (replicate n free)) (all n) (apart n)))
   where
     all : (n : ℕ) → slotsFit (replicate n free) ≡ true
     all zero = refl
@@ -169,33 +131,10 @@ fits-free n p q =
     apart zero = refl
     apart (suc n) = apart n
 
--- a head of an id from 1 on fits its slot
-pub slot-fits : (x : Head) → (x .id ≡ 0 → ⊥) → slotFits x ≡ true
-slot-fits x d = ap (λ (t : Bool). not t || (not (x .reliable) && eqb (x .acked) 0)) (ne-eqb (x .id) 0 d)
-
 -- THE FRONTIER
 
-pub meet-low : (a b : ℕ) → 1 ≤ a → (1 ≤ meet a b) × (meet a b ≤ a) × (1 ≤ b → meet a b ≤ b)
-meet-low zero b h = absurd (omega arith)
-meet-low (suc a) zero h = (h, omega arith, λ q. absurd (omega arith))
-meet-low (suc a) (suc b) h = (omega arith, omega arith, λ q. omega arith)
-
--- it is present, and at most what any reliable reader has acknowledged
-pub frontier-at : (j : ℕ) (hs : List Head) → isThere j hs ≡ true → headAt j hs .reliable ≡ true → (1 ≤ frontier hs) × (frontier hs ≤ max 1 (headAt j hs .acked))
-frontier-at j [] h q = absurd (false≢true h)
-frontier-at j (y ∷ ys) h q = go (eqb (y .id) j) refl (sym (there-is j y ys) ∙ h) q (y .reliable) refl (frontier-at j ys)
-  where
-    go : (t : Bool) → eqb (y .id) j ≡ t → (t || isThere j ys) ≡ true → getD (y ∷ ys) (cond t 0 (suc (placeOf j ys))) free .reliable ≡ true → (u : Bool) → y .reliable ≡ u
-        → (isThere j ys ≡ true → headAt j ys .reliable ≡ true → (1 ≤ frontier ys) × (frontier ys ≤ max 1 (headAt j ys .acked)))
-        → (1 ≤ cond u (meet (max 1 (y .acked)) (frontier ys)) (frontier ys)) × (cond u (meet (max 1 (y .acked)) (frontier ys)) (frontier ys) ≤ max 1 (getD (y ∷ ys) (cond t 0 (suc (placeOf j ys))) free .acked))
-    go true e g q true f r = let m = meet-low (max 1 (y .acked)) (frontier ys) (omega arith) in (m .0, m .1)
-    go true e g q false f r = clash (y .reliable) q f
-    go false e g q true f r =
-        let m = meet-low (max 1 (y .acked)) (frontier ys) (omega arith) in
-        let w = r g q in
-        let v : meet (max 1 (y .acked)) (frontier ys) ≤ frontier ys = m .2 (w .0) in
-        (m .0, omega (arith, v, w .1))
-    go false e g q false f r = r g q
+pub frontier-at : (j : ℕ) (hs : List Head) → headAt j hs .reliable ≡ true → (1 ≤ frontier hs) × (frontier hs ≤ max 1 (headAt j hs .acked))
+frontier-at j hs r = at-most-each hs (placeOf j hs) r
 
 -- no head has acknowledged more than last + 1: so the frontier can be stored
 abbrev pub Low : ℕ → List Head → Type 0

@@ -5,6 +5,7 @@ use mathlib.Core.Bool.{true, false}
 use mathlib.Core.List.{List, [], _∷_}
 use mathlib.Core.Option.{Option, none, some}
 use native.Mathlib.Omega.{arith}
+use Rattle.numbers.specs.Number.{numberAt, fragmentAt}
 use Rattle.requested_fragments.specs.Entries.{entry}
 use Rattle.number_sets.specs.Bits.{wordOf, wordsOf}
 use Rattle.writer_send_buffer.specs.declared.limits.Kind.{Kind}
@@ -37,7 +38,7 @@ dataAt (some l) = l .model .samples
 abbrev late : State
 late =
     run
-    (match 1 true 4 ∷ write 1 false ∷ send 1 ∷ deliver 0 ∷ reply 1 ∷ deliver 0 ∷ evictTo 2 ∷ match 2 true 4
+    (match 1 true 4 ∷ write 1 false ∷ send 1 ∷ deliver 0 ∷ reply 1 ∷ deliver 0 ∷ evictTo (numberAt 2) ∷ match 2 true 4
     ∷ heartbeat 2 ∷ deliver 0 ∷ reply 2 ∷ deliver 0 ∷ send 2 ∷ deliver 0 ∷ reply 2 ∷ deliver 0 ∷ [])
     new
 
@@ -51,7 +52,7 @@ late-data = refl
 
 -- BEST EFFORT: the frontier doesn't wait for such a reader; with no other there, 1 is evicted, and it is credited with 1 by a gap
 abbrev loose : State
-loose = run (match 1 false 4 ∷ write 1 false ∷ evictTo 2 ∷ send 1 ∷ deliver 0 ∷ reply 1 ∷ deliver 0 ∷ []) new
+loose = run (match 1 false 4 ∷ write 1 false ∷ evictTo (numberAt 2) ∷ send 1 ∷ deliver 0 ∷ reply 1 ∷ deliver 0 ∷ []) new
 
 loose-credit : view (find 1 (loose .lines)) ≡ 2 ∷ 2 ∷ []
 unfolding wordOf wordsOf
@@ -90,7 +91,7 @@ twice-stuck = refl
 
 -- EVICTION PAST THE FRONTIER: 1 goes before the line has it; the writer can only tell it of a gap, and credits it with 1
 abbrev past : State
-past = run (match 1 true 4 ∷ write 1 false ∷ evictTo 2 ∷ send 1 ∷ deliver 0 ∷ reply 1 ∷ deliver 0 ∷ []) new
+past = run (match 1 true 4 ∷ write 1 false ∷ evictTo (numberAt 2) ∷ send 1 ∷ deliver 0 ∷ reply 1 ∷ deliver 0 ∷ []) new
 
 past-first : past .flow .first ≡ 2
 unfolding wordOf wordsOf
@@ -168,7 +169,7 @@ three-swapped = refl
 abbrev lived : List Event
 lived =
     match 7 true 4 ∷ write 1 false ∷ write 1 false ∷ write 1 false ∷ heartbeat 7 ∷ deliver 0 ∷ reply 7 ∷ deliver 0 ∷ send 7 ∷ deliver 0 ∷ send 7 ∷ deliver 0
-    ∷ reply 7 ∷ deliver 0 ∷ evictTo 3 ∷ call 7 (gapTo 1) ∷ call 7 (gapAt 3) ∷ call 7 (askFrags 3 (record { base = 2; count = 3; words = 0xA0000000 ∷ [] })) ∷ []
+    ∷ reply 7 ∷ deliver 0 ∷ evictTo (numberAt 3) ∷ call 7 (gapTo (numberAt 1)) ∷ call 7 (gapAt (numberAt 3)) ∷ call 7 (askFrags (numberAt 3) (record { base = fragmentAt 2; count = 3; words = 0xA0000000 ∷ [] })) ∷ []
 
 abbrev kept : Line
 kept =

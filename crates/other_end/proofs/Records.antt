@@ -1,40 +1,18 @@
--- A coherent reader record stays coherent under each step, and what the steps do to its unsent numbers. Assumes nothing.
+-- What holds of a line's record beside its being valid: its unsent numbers are not below acked, and no number is past the last one. Assumes nothing.
 use Prim.Native.Nat.{ℕ, suc, _+_, _-_, _≤_, max}
 use mathlib.Core.Path.{_≡_, refl, sym, _∙_}
 use mathlib.Core.Bool.{Bool, true, false, not, cond, _&&_, false≢true}
 use mathlib.Core.Logic.{_⊎_, inl, inr}
-use mathlib.Core.List.{List, [], _∷_}
-use lib.Dec.{ltb, leb, eqb}
+use mathlib.Core.List.{List}
+use lib.Dec.{leb, eqb}
 use lib.ListN.{length}
 use native.Mathlib.Omega.{arith}
 use borrow.Author.Tests.{ltb-true, ltb-false, leb-true, eqb-true, le-leb}
-use Rattle.sets.specs.Sets.{has, From, insert, only, between, smallest, largest}
+use Rattle.sets.specs.Sets.{has, From, insert, only, between, smallest}
 use Rattle.sets.proofs.Bools.{or-false, and-left, and-right, and-both}
 use Rattle.sets.proofs.Has.{has-insert, has-union, has-only, has-between, From-weak, From-insert, From-union, From-only, From-raise}
-use Rattle.sets.proofs.Smallest.{From-smallest, From-largest, smallest-few, largest-few, has-take-sub, has-drop-sub}
+use Rattle.sets.proofs.Smallest.{From-smallest, From-largest, has-take-sub, has-drop-sub}
 use Rattle.rtps_reader_proxy.specs.Reader.{Reader, fresh, withUnsent, baseOf, isLate, ackedAfter, staying, wanted, acknowledge, notified}
-use Rattle.other_end.specs.Coherent.{ReaderFits}
-
-pub length-only : (p : ℕ → Bool) (l : List ℕ) → length (only p l) ≤ length l
-length-only p [] = omega arith
-length-only p (x ∷ xs) = go (p x) (length-only p xs)
-  where
-    go : (t : Bool) → length (only p xs) ≤ length xs → length (cond t (x ∷ only p xs) (only p xs)) ≤ suc (length xs)
-    go true h = omega arith
-    go false h = omega arith
-
-pub length-insert : (n : ℕ) (l : List ℕ) → (1 ≤ length (insert n l)) × (length (insert n l) ≤ suc (length l))
-length-insert n [] = (omega arith, omega arith)
-length-insert n (x ∷ xs) = lt (ltb n x) (length-insert n xs)
-  where
-    eq : (t : Bool) → (1 ≤ length (insert n xs)) × (length (insert n xs) ≤ suc (length xs)) → (1 ≤ length (cond t (x ∷ xs) (x ∷ insert n xs))) × (length (cond t (x ∷ xs) (x ∷ insert n xs)) ≤ suc (suc (length xs)))
-    eq true h = (omega arith, omega arith)
-    eq false h = (omega arith, omega (arith, h .1))
-
-    lt : (t : Bool) → (1 ≤ length (insert n xs)) × (length (insert n xs) ≤ suc (length xs))
-        → (1 ≤ length (cond t (n ∷ x ∷ xs) (cond (eqb n x) (x ∷ xs) (x ∷ insert n xs)))) × (length (cond t (n ∷ x ∷ xs) (cond (eqb n x) (x ∷ xs) (x ∷ insert n xs))) ≤ suc (suc (length xs)))
-    lt true h = (omega arith, omega arith)
-    lt false h = eq (eqb n x) h
 
 -- membership, read the other way
 pub in-only : (p : ℕ → Bool) (l : List ℕ) (n : ℕ) → has (only p l) n ≡ true → (p n ≡ true) × (has l n ≡ true)
@@ -75,78 +53,26 @@ module _ (last b a : ℕ) (u : List ℕ) (ms : List ℕ) where
       go (inl w) = in-between (ackedAfter a b) last ms n w .1
       go (inr w) = old (isLate a b) w
 
--- unsent numbers are not below acked: kept beside coherence
+-- unsent numbers are not below acked
 abbrev pub Above : Reader → Type 0
 Above r = From (max 1 (r .acked)) (r .unsent)
 
-pub fits-fresh : (top m : ℕ) → 1 ≤ m → m ≤ 1024 → ReaderFits top (fresh m)
-fits-fresh top m p q =
-    record {
-      acked = omega arith;
-      cap-low = p;
-      cap-high = q;
-      few = omega arith;
-      rise = tt;
-      high = λ n e. absurd (false≢true e);
-      prefix = omega arith;
-      gaps-few = omega arith;
-      gaps-rise = tt;
-      gaps-low = λ n e. absurd (false≢true e);
-      gaps-high = λ n e. absurd (false≢true e);
-      frags-few = omega arith;
-      frags = tt;
-    }
+-- no number is past the last one
+pub record Within (last : ℕ) (r : Reader) : Type 0 where
+  pub acked : r .acked ≤ suc last
+  pub high : (n : ℕ) → has (r .unsent) n ≡ true → n ≤ last
 
-pub fits-more : (a b : ℕ) (r : Reader) → a ≤ b → ReaderFits a r → ReaderFits b r
-fits-more a b r q h =
-    record {
-      acked = omega (arith, h .acked);
-      cap-low = h .cap-low;
-      cap-high = h .cap-high;
-      few = h .few;
-      rise = h .rise;
-      high = λ n e. omega (arith, h .high n e);
-      prefix = omega (arith, h .prefix);
-      gaps-few = h .gaps-few;
-      gaps-rise = h .gaps-rise;
-      gaps-low = h .gaps-low;
-      gaps-high = λ n e. omega (arith, h .gaps-high n e);
-      frags-few = h .frags-few;
-      frags = h .frags;
-    }
+pub within-fresh : (last m : ℕ) → Within last (fresh m)
+within-fresh last m = record { acked = omega arith; high = λ n e. absurd (false≢true e) }
 
-module _ (last : ℕ) (r : Reader) (h : ReaderFits last r) where
-  -- other unsent numbers
-  fits-unsent : (top : ℕ) (u : List ℕ) → last ≤ top → length u ≤ r .cap → From 1 u → ((n : ℕ) → has u n ≡ true → n ≤ top) → ReaderFits top (withUnsent u r)
-  fits-unsent top u q few rise high =
-      record {
-        acked = omega (arith, h .acked);
-        cap-low = h .cap-low;
-        cap-high = h .cap-high;
-        few = few;
-        rise = rise;
-        high = high;
-        prefix = omega (arith, h .prefix);
-        gaps-few = h .gaps-few;
-        gaps-rise = h .gaps-rise;
-        gaps-low = h .gaps-low;
-        gaps-high = λ n e. omega (arith, h .gaps-high n e);
-        frags-few = h .frags-few;
-        frags = h .frags;
-      }
-
+module _ (last : ℕ) (r : Reader) (h : Within last r) where
   -- fewer unsent numbers: marked sent, or removed
-  pub fits-only : (p : ℕ → Bool) → ReaderFits last (withUnsent (only p (r .unsent)) r)
-  fits-only p =
-      fits-unsent last (only p (r .unsent)) (omega arith) (omega (arith, length-only p (r .unsent), h .few)) (From-only 1 p (r .unsent) (h .rise))
-      (λ n e. h .high n (in-only p (r .unsent) n e .1))
+  pub within-only : (p : ℕ → Bool) → Within last (withUnsent (only p (r .unsent)) r)
+  within-only p = record { acked = h .acked; high = λ n e. h .high n (in-only p (r .unsent) n e .1) }
 
   -- one more
-  pub fits-notified : ReaderFits (last + 1) (notified (last + 1) r)
-  fits-notified =
-      fits-unsent (last + 1) (largest (r .cap) grown) (omega arith) (largest-few (r .cap) grown)
-      (From-largest (r .cap) 1 grown (From-insert 1 (last + 1) (r .unsent) (omega arith) (h .rise)))
-      (λ n e. go n (in-insert (last + 1) n (r .unsent) (has-drop-sub (length grown - r .cap) grown n e)))
+  pub within-notified : Within (last + 1) (notified (last + 1) r)
+  within-notified = record { acked = omega (arith, h .acked); high = λ n e. go n (in-insert (last + 1) n (r .unsent) (has-drop-sub (length grown - r .cap) grown n e)) }
     where
       grown : List ℕ
       grown = insert (last + 1) (r .unsent)
@@ -159,28 +85,11 @@ module _ (last : ℕ) (r : Reader) (h : ReaderFits last r) where
   above-notified a =
       From-largest (r .cap) (max 1 (r .acked)) (insert (last + 1) (r .unsent)) (From-insert (max 1 (r .acked)) (last + 1) (r .unsent) (omega (arith, h .acked)) a)
 
+  pub within-acked : (b : ℕ) (ms : List ℕ) → baseOf b ≤ suc last → Within last (acknowledge last b ms r)
+  within-acked b ms q =
+      record { acked = omega (arith, h .acked); high = λ n e. wanted-high last b (r .acked) (r .unsent) ms (h .high) n (has-take-sub (r .cap) (wanted last b ms (r .acked) (r .unsent)) n e) }
+
   pub above-acked : (b : ℕ) (ms : List ℕ) → Above r → Above (acknowledge last b ms r)
   above-acked b ms a =
       From-weak (max 1 (ackedAfter (r .acked) b)) (ackedAfter (r .acked) b) (smallest (r .cap) (wanted last b ms (r .acked) (r .unsent))) (omega arith)
       (From-smallest (r .cap) (ackedAfter (r .acked) b) (wanted last b ms (r .acked) (r .unsent)) (wanted-rise last b (r .acked) (r .unsent) ms a))
-
-  pub fits-acked : (b : ℕ) (ms : List ℕ) → baseOf b ≤ suc last → Above r → ReaderFits last (acknowledge last b ms r)
-  fits-acked b ms q a =
-      record {
-        acked = omega (arith, h .acked);
-        cap-low = h .cap-low;
-        cap-high = h .cap-high;
-        few = smallest-few (r .cap) full;
-        rise = From-weak 1 (ackedAfter (r .acked) b) (smallest (r .cap) full) (omega arith) (From-smallest (r .cap) (ackedAfter (r .acked) b) full (wanted-rise last b (r .acked) (r .unsent) ms a));
-        high = λ n e. wanted-high last b (r .acked) (r .unsent) ms (h .high) n (has-take-sub (r .cap) full n e);
-        prefix = h .prefix;
-        gaps-few = omega (arith, length-only (leb (ackedAfter (r .acked) b)) (r .gaps), h .gaps-few);
-        gaps-rise = From-only (suc (r .prefix)) (leb (ackedAfter (r .acked) b)) (r .gaps) (h .gaps-rise);
-        gaps-low = λ n e. leb-true (ackedAfter (r .acked) b) n (in-only (leb (ackedAfter (r .acked) b)) (r .gaps) n e .0);
-        gaps-high = λ n e. h .gaps-high n (in-only (leb (ackedAfter (r .acked) b)) (r .gaps) n e .1);
-        frags-few = h .frags-few;
-        frags = h .frags;
-      }
-    where
-      full : List ℕ
-      full = wanted last b ms (r .acked) (r .unsent)

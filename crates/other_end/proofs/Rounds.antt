@@ -5,20 +5,21 @@ use mathlib.Core.Bool.{Bool, true, false, cond}
 use mathlib.Core.Logic.{_⊎_, inl, inr}
 use mathlib.Core.List.{List, [], _∷_, _++_}
 use mathlib.Core.Option.{Option, none, some}
-use lib.Dec.{ltb, eqb}
+use lib.Dec.{eqb}
 use native.Mathlib.Omega.{arith}
 use native.Mathlib.Nat.{zero-mul, suc-mul, div-lt-iff-lt-mul}
 use borrow.Author.Tests.{eqb-true, eqb-false, ne-eqb}
 use Rattle.sets.proofs.Bools.{clash, decide}
-use Rattle.numbers.specs.Refusals.{row, rowsOf, answerOf, isDone}
+use Rattle.numbers.specs.Number.{rankOf}
+use Rattle.numbers.specs.Refusals.{answerOf, isDone}
 use Rattle.numbers.specs.declared.answer.Rows.{Rows}
 use Rattle.number_sets.specs.Bits.{members}
 use Rattle.rtps_reader_proxy.specs.Reader.{acknowledge, markedSent}
 use Rattle.reader_list.specs.Readers.{isThere}
-use Rattle.writer_send_buffer.specs.Flow.{ahead, raised}
+use Rattle.writer_send_buffer.specs.Flow.{raised}
 use Rattle.other_end.specs.Model.{gotData, gotGap, gotBeat, base}
 use Rattle.other_end.specs.Calls.{Call, result, callRows}
-use Rattle.other_end.specs.System.{Line, Body, sample, gap, beat, ack, Msg, State, Event, match, depart, write, sentTo, evictTo, call, heartbeat, send, reply, deliver, find, upd, nth, onServer, onModel, withLines, withFlow, tried, unknown, matchRows, newcomer, joined, left, ackRows, acknowledges, called, evicts, arrive, arrives, sendFirst, sendTo, beatTo, replyFrom, step, run}
+use Rattle.other_end.specs.System.{Line, Body, sample, gap, beat, ack, Msg, State, Event, match, depart, write, sentTo, evictTo, call, heartbeat, send, reply, deliver, find, upd, nth, onServer, onModel, withLines, withFlow, tried, matchRows, departRows, newcomer, joined, left, ackRows, acknowledges, called, sentRows, evictRows, evicts, arrive, arrives, sendFirst, sendTo, beatTo, replyFrom, step, run}
 use Rattle.other_end.specs.Rounds.{opened, Round, Quiet, Rounds}
 use Rattle.other_end.specs.Demand3.{Moved, Reached, roundsFor}
 use Rattle.other_end.proofs.Found.{find-same, find-other, find-stays}
@@ -102,14 +103,14 @@ module _ (i : ℕ) (l : Line) (s : State) (h : Sound s) (found : find i (s .line
   next-arrives k (some m) e = next-arrive (m .line) (m .body) (h .sane k m e)
 
   next-depart : (j : ℕ) → (j ≡ i → ⊥) → Next i l (s .flow .last) (step (depart j) s)
-  next-depart j q = next-tried (rowsOf (row 11 (unknown j s) ∷ [])) (left j s) (λ d. (l, find-stays j i q (s .lines) ∙ found, refl, same l))
+  next-depart j q = next-tried (departRows j s) (left j s) (λ d. (l, find-stays j i q (s .lines) ∙ found, refl, same l))
 
   quiet-step : (e : Event) (es : List Event) → Quiet i (e ∷ es) → Next i l (s .flow .last) (step e s) × Quiet i es
   quiet-step (match j r m) es q = (next-tried (matchRows j m s) (joined j r m s) (next-match j r m), q)
   quiet-step (depart j) es q = (next-depart j (q .0), q .1)
   quiet-step (write len opted) es q = absurd q
-  quiet-step (sentTo k) es q = (next-tried (rowsOf (row 2 (ltb (s .flow .last) k) ∷ [])) (withFlow (raised k (s .flow)) s) (λ d. stays), q)
-  quiet-step (evictTo k) es q = (next-tried (rowsOf (row 2 (ahead k (s .flow)) ∷ [])) (evicts k s) (λ d. stays), q)
+  quiet-step (sentTo k) es q = (next-tried (sentRows k s) (withFlow (raised (rankOf k) (s .flow)) s) (λ d. stays), q)
+  quiet-step (evictTo k) es q = (next-tried (evictRows k s) (evicts (rankOf k) s) (λ d. stays), q)
   quiet-step (call j c) es q = (next-call j c (find j (s .lines)), q)
   quiet-step (heartbeat j) es q = (next-beat j (find j (s .lines)), q)
   quiet-step (send j) es q = (next-sendTo j (find j (s .lines)), q)

@@ -5,29 +5,36 @@ use mathlib.Core.Bool.{Bool, true, false, not, cond, _&&_, _||_, false≢true}
 use mathlib.Core.Logic.{_⊎_, inl, inr}
 use mathlib.Core.List.{List, [], _∷_}
 use mathlib.Core.Option.{Option, none, some}
-use lib.Dec.{ltb, leb, eqb}
+use lib.Dec.{leb, eqb}
+use lib.ListN.{replicate}
 use native.Mathlib.Omega.{arith}
-use borrow.Author.Tests.{ltb-false, leb-true, eqb-true, eqb-false, eq-eqb, ne-eqb, le-leb, not-true, not-false}
+use borrow.Author.Tests.{leb-true, eqb-true, eqb-false, eq-eqb, ne-eqb, le-leb, le-ltb, ltb-false, not-true, not-false}
 use Rattle.sets.specs.Sets.{has, From}
 use Rattle.sets.proofs.Bools.{or-right, and-left, and-right, and-both, clash}
-use Rattle.numbers.specs.Refusals.{row, rowsOf, answerOf, isDone}
+use Rattle.numbers.specs.Number.{rankOf}
+use Rattle.numbers.specs.Refusals.{answerOf, isDone}
 use Rattle.numbers.specs.declared.answer.Rows.{Rows}
 use Rattle.numbers.proofs.Refused.{Clear}
 use Rattle.number_sets.specs.Bits.{NumberSet, members}
 use Rattle.rtps_reader_proxy.specs.Reader.{Reader, baseOf, ackedAfter, acknowledge, notified, markedSent}
+use Rattle.reader_record.proofs.Kept.{fresh-valid}
 use Rattle.reader_list.specs.Readers.{Head, free, frontier, placeOf, isThere, headAt, matched, departed, fits}
+use Rattle.reader_list.specs.Slots.{unknown}
+use Rattle.reader_list.proofs.Kept.{fits-matched, fits-departed, fits-acknowledged}
 use Rattle.writer_send_buffer.specs.declared.limits.Kind.{Kind}
 use Rattle.writer_send_buffer.specs.declared.limits.Limits.{Limits}
-use Rattle.writer_send_buffer.specs.Flow.{Flow, allowed, admitted, admitRows, ahead, stored, raised, evicted, retained}
+use Rattle.writer_send_buffer.specs.Flow.{Flow, allowed, admitted, ahead, stored, raised, evicted, retained}
+use Rattle.writer_send_buffer.proofs.Sound.{Fits}
+use Rattle.writer_send_buffer.proofs.Steps.{fits-blank, fits-admitted, fits-stored, fits-raised, fits-evicted}
+use Rattle.writer_send_buffer.proofs.Window.{no-trim-with-readers}
 use Rattle.other_end.specs.Model.{gotData, gotGap, gotBeat, base, ackNack}
 use Rattle.other_end.specs.Calls.{Call, result, callRows}
-use Rattle.other_end.specs.System.{Line, Body, sample, gap, beat, ack, Msg, State, Event, match, depart, write, sentTo, evictTo, call, heartbeat, send, reply, deliver, find, upd, dropped, nth, headOf, onServer, onModel, withLines, withFlow, post, tried, unknown, matchRows, newcomer, joined, left, ackRows, ackedHeads, acknowledges, called, wrote, evicts, arrive, arrives, sendFirst, sendTo, beatTo, replyFrom, step, run, start}
-use Rattle.other_end.proofs.Found.{none-some, none-msg, some-line, some-msg, find-id, find-upd, find-map, find-left}
-use Rattle.other_end.proofs.Heads.{there-other, head-other, set-own, fits-set, fits-free, slot-fits, frontier-at, Low, low-set, low-at, low-more, low-free, frontier-low}
-use Rattle.other_end.proofs.Records.{fits-fresh}
+use Rattle.other_end.specs.System.{Line, Body, sample, gap, beat, ack, Msg, State, Event, match, depart, write, sentTo, evictTo, call, heartbeat, send, reply, deliver, find, upd, dropped, nth, headOf, onServer, onModel, withLines, withFlow, post, tried, matchRows, departRows, newcomer, joined, left, ackRows, ackedHeads, acknowledges, called, writeRows, sentRows, evictRows, wrote, evicts, arrive, arrives, sendFirst, sendTo, beatTo, replyFrom, step, run, start}
+use Rattle.other_end.proofs.Found.{none-some, none-msg, some-line, some-msg, find-id, find-upd, find-map, find-stays, find-left, find-kept, find-mapped, Apart, apart-upd, apart-map, apart-dropped}
+use Rattle.other_end.proofs.Heads.{there-other, head-other, set-own, known-is, is-known, gone, free-none, fits-different, fits-free, frontier-at, Low, low-set, low-at, low-more, low-free, frontier-low}
+use Rattle.other_end.proofs.Records.{within-fresh}
 use Rattle.other_end.proofs.Calls.{done-clear, both-false, call-acked}
-use Rattle.other_end.proofs.Flows.{FlowOk, flow-blank, flow-stored, flow-raised, flow-evicted, flow-admitted, no-trim}
-use Rattle.other_end.proofs.Fine.{Early, Trusted, Sane, Good, Fine, sane-more, fine-data, fine-gap, fine-beat, fine-sent, fine-call, fine-ack, fine-notified, fine-flow, fine-post}
+use Rattle.other_end.proofs.Fine.{Early, Trusted, Sane, Good, Fine, sane-more, base-last, fine-data, fine-gap, fine-beat, fine-sent, fine-call, fine-ack, fine-notified, fine-flow, fine-post}
 
 -- in the list stands, for the id i, the head of the line l
 pub record Held (hs : List Head) (i : ℕ) (l : Line) : Type 0 where
@@ -38,12 +45,14 @@ pub record Held (hs : List Head) (i : ℕ) (l : Line) : Type 0 where
 pub record Sound (s : State) : Type 0 where
   pub lines : (i : ℕ) (l : Line) → find i (s .lines) ≡ some l → Fine (s .flow) (s .careful) (s .net) l
   pub held : (i : ℕ) (l : Line) → find i (s .lines) ≡ some l → Held (s .heads) i l
-  pub flow : FlowOk (s .flow)
+  pub flow : Fits (s .flow)
   pub list : fits (s .heads) ≡ true
   pub low : Low (s .flow .last) (s .heads)
   pub ids : (i : ℕ) (l : Line) → find i (s .lines) ≡ some l → has (s .used) i ≡ true
   pub tags : (k : ℕ) (m : Msg) → nth (s .net) k ≡ some m → has (s .used) (m .line) ≡ true
   pub sane : (k : ℕ) (m : Msg) → nth (s .net) k ≡ some m → Sane (s .flow .last) (m .body)
+  pub known : (i : ℕ) → unknown i (s .heads) ≡ false → (l : Line) × (find i (s .lines) ≡ some l)
+  pub apart : Apart (s .lines)
 
 pub sound-tried : (r : Rows) (x y : State) → Sound x → (isDone (answerOf r) ≡ true → Sound y) → Sound (tried r x y)
 sound-tried r x y p q = go (isDone (answerOf r)) refl
@@ -55,10 +64,14 @@ sound-tried r x y p q = go (isDone (answerOf r)) refl
 -- the frontier, stored: what it is against a reliable line
 front-stored : (f : Flow) (hs : List Head) (j : ℕ) (l : Line) → Held hs j l → l .reliable ≡ true → (stored (frontier hs) f .present ≡ true) × (stored (frontier hs) f .acked ≤ max 1 (l .server .acked))
 front-stored f hs j l h r =
-    let w = frontier-at j hs (h .there) (ap (λ (x : Head). x .reliable) (h .head) ∙ r) in
+    let w = frontier-at j hs (ap (λ (x : Head). x .reliable) (h .head) ∙ r) in
     let a : headAt j hs .acked ≡ l .server .acked = ap (λ (x : Head). x .acked) (h .head) in
     let z : eqb (frontier hs) 0 ≡ false = ne-eqb (frontier hs) 0 (λ (q : frontier hs ≡ 0). omega (arith, w .0)) in
     (ap not z, subst (λ (t : Bool). cond t (f .acked) (frontier hs) ≤ max 1 (l .server .acked)) (sym z) (omega (arith, w .1, a)))
+
+-- a frontier that isn't past last + 1 can be stored
+flow-stored : (f : Flow) → Fits f → (a : ℕ) → a ≤ suc (f .last) → Fits (stored a f)
+flow-stored f h a q = fits-stored f h a (le-ltb (f .last + 1) a (omega arith))
 
 -- a head with another number
 abbrev headWith : Line → ℕ → Head
@@ -78,6 +91,8 @@ module _ (s : State) (h : Sound s) where
         ids = λ j l′ e. let w = find-upd i j g ids (s .lines) l′ e in h .ids j (w .0) (w .1);
         tags = h .tags;
         sane = h .sane;
+        known = λ j e. let w = h .known j e in find-kept i j g ids (s .lines) (w .0) (w .1);
+        apart = apart-upd i g ids (s .lines) (h .apart);
       }
     where
       ids : (l : Line) → g l .id ≡ l .id
@@ -102,6 +117,8 @@ module _ (s : State) (h : Sound s) where
         ids = h .ids;
         tags = tagged;
         sane = saner;
+        known = h .known;
+        apart = h .apart;
       }
     where
       tagged : (k : ℕ) (m : Msg) → nth (record { line = i; body = b } ∷ s .net) k ≡ some m → has (s .used) (m .line) ≡ true
@@ -114,17 +131,19 @@ module _ (s : State) (h : Sound s) where
 
   -- THE READERS
 
-  sound-joined : (i : ℕ) (r : Bool) (m : ℕ) → isDone (answerOf (matchRows i m s)) ≡ true → Sound (joined i r m s)
+  pub sound-joined : (i : ℕ) (r : Bool) (m : ℕ) → isDone (answerOf (matchRows i m s)) ≡ true → Sound (joined i r m s)
   sound-joined i r m d =
       record {
         lines = λ j l e. each j l (eqb j i) refl e (stands j l e);
         held = stands;
         flow = flow′;
-        list = fits-set 0 x (s .heads) (slot-fits x nonzero) (inr (inr absent)) (h .list);
+        list = fits-matched (s .heads) (h .list) i r (c .reader);
         low = low′;
         ids = λ j l e. known j l (eqb j i) refl e;
         tags = λ k p e. or-right (eqb i (p .line)) (has (s .used) (p .line)) (h .tags k p e);
         sane = h .sane;
+        known = λ j e. known-of j (eqb j i) refl (known-is j (matched i r (s .heads)) e);
+        apart = (fresh-id (find i (s .lines)) refl, h .apart);
       }
     where
       c : Clear (matchRows i m s)
@@ -154,7 +173,7 @@ module _ (s : State) (h : Sound s) where
       low′ : Low (s .flow .last) (matched i r (s .heads))
       low′ = low-set (s .flow .last) (s .heads) (placeOf 0 (s .heads)) x (omega arith) (h .low)
 
-      flow′ : FlowOk f′
+      flow′ : Fits f′
       flow′ = flow-stored (s .flow) (h .flow) (frontier (matched i r (s .heads))) (frontier-low (s .flow .last) (matched i r (s .heads)) low′)
 
       own : (isThere i (matched i r (s .heads)) ≡ true) × (headAt i (matched i r (s .heads)) ≡ x)
@@ -173,6 +192,17 @@ module _ (s : State) (h : Sound s) where
               let b : i ≡ j → ⊥ = λ (z : i ≡ j). eqb-false j i q (sym z) in
               record { some-id = o .some-id; there = there-other 0 j x a b (s .heads) ∙ o .there; head = head-other 0 j x a b (s .heads) ∙ o .head }
 
+      fresh-id : (o : Option Line) → find i (s .lines) ≡ o → o ≡ none
+      fresh-id none e = refl
+      fresh-id (some l) e = clash (isThere i (s .heads)) (h .held i l e .there) absent
+
+      known-of : (j : ℕ) (t : Bool) → eqb j i ≡ t → ((j ≡ 0) → ⊥) × (isThere j (matched i r (s .heads)) ≡ true) → (l : Line) × (cond t (some new) (find j (s .lines)) ≡ some l)
+      known-of j true q k = (new, refl)
+      known-of j false q k =
+          let a : 0 ≡ j → ⊥ = λ (z : 0 ≡ j). k .0 (sym z) in
+          let b : i ≡ j → ⊥ = λ (z : i ≡ j). eqb-false j i q (sym z) in
+          h .known j (is-known j (s .heads) (k .0) (sym (there-other 0 j x a b (s .heads)) ∙ k .1))
+
       each : (j : ℕ) (l : Line) (t : Bool) → eqb j i ≡ t → cond t (some new) (find j (s .lines)) ≡ some l → Held (matched i r (s .heads)) j l → Fine f′ (s .careful) (s .net) l
       each j l false q e o =
           fine-flow (s .flow) (s .careful) (s .net) l (h .lines j l e) f′ (s .careful) refl (λ t. t) (front-stored (s .flow) (matched i r (s .heads)) j l o) (λ t k. h .lines j l e .kept t k .0)
@@ -183,11 +213,12 @@ module _ (s : State) (h : Sound s) where
             rise = tt;
             top = λ n w. absurd (false≢true w);
             known = omega arith;
-            fits = fits-fresh (s .flow .last) m (leb-true 1 m (and-left (leb 1 m) (leb m 1024) cap)) (leb-true m 1024 (and-right (leb 1 m) (leb m 1024) cap));
+            valid = fresh-valid m (leb-true 1 m (and-left (leb 1 m) (leb m 1024) cap)) (leb-true m 1024 (and-right (leb 1 m) (leb m 1024) cap));
+            within = within-fresh (s .flow .last) m;
             above = tt;
             credit = λ a. omega arith;
             front = fr;
-            kept = λ t k. (omega (arith, h .flow .first, k .0), refl);
+            kept = λ t k. (omega (arith, h .flow .first-in, k .0), refl);
             mail = λ a k p w z. clash (has (s .used) i) (ap (has (s .used)) (sym z) ∙ h .tags k p w) (not-true (has (s .used) i) a);
           })
           (front-stored (s .flow) (matched i r (s .heads)) j l o)
@@ -196,19 +227,30 @@ module _ (s : State) (h : Sound s) where
       known j l true q e = ap (λ (t : Bool). t || has (s .used) j) (eq-eqb i j (sym (eqb-true j i q)))
       known j l false q e = or-right (eqb i j) (has (s .used) j) (h .ids j l e)
 
-  sound-left : (i : ℕ) → Sound (left i s)
+  pub sound-left : (i : ℕ) → Sound (left i s)
   sound-left i =
       record {
         lines = λ j l e. let w = find-left i j (s .lines) l e in fine-flow (s .flow) (s .careful) (s .net) l (h .lines j l (w .1)) f′ (s .careful) refl (λ t. t) (front-stored (s .flow) (departed i (s .heads)) j l (stands j l e)) (λ t k. h .lines j l (w .1) .kept t k .0);
         held = stands;
         flow = flow-stored (s .flow) (h .flow) (frontier (departed i (s .heads))) (frontier-low (s .flow .last) (departed i (s .heads)) low′);
-        list = fits-set i free (s .heads) refl (inl refl) (h .list);
+        list = fits-departed (s .heads) (h .list) i;
         low = low′;
         ids = λ j l e. h .ids j l (find-left i j (s .lines) l e .1);
         tags = h .tags;
         sane = h .sane;
+        known = λ j e. stay j (eqb i j) refl (known-is j (departed i (s .heads)) e);
+        apart = apart-dropped i (s .lines) (h .apart);
       }
     where
+      stay : (j : ℕ) (t : Bool) → eqb i j ≡ t → ((j ≡ 0) → ⊥) × (isThere j (departed i (s .heads)) ≡ true) → (l : Line) × (find j (dropped i (s .lines)) ≡ some l)
+      stay j true q k =
+          let w : i ≡ j = eqb-true i j q in
+          clash (isThere j (departed i (s .heads))) (k .1) (subst (λ (n : ℕ). isThere j (departed n (s .heads)) ≡ false) (sym w) (gone j (k .0) (s .heads) (fits-different (s .heads) (h .list))))
+      stay j false q k =
+          let d = eqb-false i j q in
+          let w = h .known j (is-known j (s .heads) (k .0) (sym (there-other i j free d (λ (z : 0 ≡ j). k .0 (sym z)) (s .heads)) ∙ k .1)) in
+          (w .0, find-stays i j d (s .lines) ∙ w .1)
+
       f′ : Flow
       f′ = left i s .flow
 
@@ -222,18 +264,20 @@ module _ (s : State) (h : Sound s) where
           let b : 0 ≡ j → ⊥ = λ (z : 0 ≡ j). o .some-id (sym z) in
           record { some-id = o .some-id; there = there-other i j free (w .0) b (s .heads) ∙ o .there; head = head-other i j free (w .0) b (s .heads) ∙ o .head }
 
-  sound-ack : (i : ℕ) (z : NumberSet) → ((l : Line) (j : ℕ) → find j (s .lines) ≡ some l → i ≡ l .id → l .anew ≡ true → z .base ≤ base (l .model))
+  pub sound-ack : (i : ℕ) (z : NumberSet) → ((l : Line) (j : ℕ) → find j (s .lines) ≡ some l → i ≡ l .id → l .anew ≡ true → z .base ≤ base (l .model))
       → isDone (answerOf (ackRows i z s)) ≡ true → Sound (acknowledges i z s)
   sound-ack i z g d =
       record {
         lines = λ j l′ e. let w = find-upd i j up (λ l. refl) (s .lines) l′ e in each j l′ (w .0) (stands j l′ e) (w .1) (w .2);
         held = stands;
         flow = flow-stored (s .flow) (h .flow) (frontier hs′) (frontier-low (s .flow .last) hs′ low′);
-        list = fits-set i x (s .heads) (slot-fits x nonzero) (inr (inl refl)) (h .list);
+        list = fits-acknowledged (s .heads) (h .list) i (ackedAfter (headAt i (s .heads) .acked) (z .base)) (c .reader);
         low = low′;
         ids = λ j l′ e. let w = find-upd i j up (λ l. refl) (s .lines) l′ e in h .ids j (w .0) (w .1);
         tags = h .tags;
         sane = h .sane;
+        known = λ j e. let w = knew j (eqb i j) refl (known-is j (ackedHeads i z s) e) in find-kept i j up (λ l. refl) (s .lines) (w .0) (w .1);
+        apart = apart-upd i up (λ l. refl) (s .lines) (h .apart);
       }
     where
       up : Line → Line
@@ -263,6 +307,10 @@ module _ (s : State) (h : Sound s) where
       low′ : Low (s .flow .last) (ackedHeads i z s)
       low′ = low-set (s .flow .last) (s .heads) (placeOf i (s .heads)) x (omega (arith, near, low-at (s .flow .last) (s .heads) (placeOf i (s .heads)) (h .low))) (h .low)
 
+      knew : (j : ℕ) (t : Bool) → eqb i j ≡ t → ((j ≡ 0) → ⊥) × (isThere j (ackedHeads i z s) ≡ true) → (l : Line) × (find j (s .lines) ≡ some l)
+      knew j true q k = h .known j (is-known j (s .heads) (k .0) (subst (λ (n : ℕ). isThere n (s .heads) ≡ true) (eqb-true i j q) here))
+      knew j false q k = let d = eqb-false i j q in h .known j (is-known j (s .heads) (k .0) (sym (there-other i j x d d (s .heads)) ∙ k .1))
+
       own : (isThere i (ackedHeads i z s) ≡ true) × (headAt i (ackedHeads i z s) ≡ x)
       own = set-own i x (s .heads) here (inl refl)
 
@@ -288,7 +336,7 @@ module _ (s : State) (h : Sound s) where
       each : (j : ℕ) (l′ l : Line) → Held (ackedHeads i z s) j l′ → find j (s .lines) ≡ some l → ((i ≡ l .id) × (l′ ≡ onServer (acknowledge (s .flow .last) (z .base) (members z)) l)) ⊎ (((i ≡ j) → ⊥) × (l′ ≡ l)) → Fine f′ (s .careful) (s .net) l′
       each j l′ l o e (inl w) =
           subst (λ (y : Line). Fine f′ (s .careful) (s .net) y) (sym (w .1))
-          (fine-ack (s .flow) (s .careful) (s .net) l (h .lines j l e) f′ (z .base) (members z) refl refl (λ t. t) near (g l j e (w .0))
+          (fine-ack (s .flow) (s .careful) (s .net) l (h .lines j l e) f′ z (h .flow .last-most) refl refl (λ t. t) (c .ahead) (g l j e (w .0))
           (front-stored (s .flow) (ackedHeads i z s) j (onServer (acknowledge (s .flow .last) (z .base) (members z)) l) (subst (λ (y : Line). Held (ackedHeads i z s) j y) (w .1) o)))
       each j l′ l o e (inr w) =
           subst (λ (y : Line). Fine f′ (s .careful) (s .net) y) (sym (w .1))
@@ -300,7 +348,7 @@ module _ (s : State) (h : Sound s) where
   sound-call i d (some l) e =
       sound-tried (callRows (s .flow .last) d (l .server)) s (withLines (upd i (onServer (result d)) (s .lines)) s) h
       (λ ok. sound-upd i (onServer (result d)) (λ y. ap (headWith y) (call-acked d (y .server)))
-      (λ j l′ e′ q. fine-call (s .flow) (s .careful) (s .net) l′ (h .lines j l′ e′) d
+      (λ j l′ e′ q. fine-call (s .flow) (s .careful) (s .net) l′ (h .lines j l′ e′) d (h .flow .last-most)
       (subst (λ (y : Line). isDone (answerOf (callRows (s .flow .last) d (y .server))) ≡ true) (same j l′ e′ q) ok)))
     where
       same : (j : ℕ) (l′ : Line) → find j (s .lines) ≡ some l′ → i ≡ l′ .id → l ≡ l′
@@ -309,7 +357,7 @@ module _ (s : State) (h : Sound s) where
   -- THE NUMBERS
 
   -- only the flow changes, and perhaps the care
-  sound-flow : (f′ : Flow) (c′ : Bool) → f′ .last ≡ s .flow .last → f′ .present ≡ s .flow .present → f′ .acked ≡ s .flow .acked → (Trusted f′ c′ → Trusted (s .flow) (s .careful)) → FlowOk f′
+  sound-flow : (f′ : Flow) (c′ : Bool) → f′ .last ≡ s .flow .last → f′ .present ≡ s .flow .present → f′ .acked ≡ s .flow .acked → (Trusted f′ c′ → Trusted (s .flow) (s .careful)) → Fits f′
       → ((l : Line) (j : ℕ) → find j (s .lines) ≡ some l → Trusted f′ c′ → Early l → f′ .first ≤ max 1 (l .server .acked))
       → Sound (record { flow = f′; heads = s .heads; lines = s .lines; used = s .used; careful = c′; net = s .net })
   sound-flow f′ c′ p pr ac t ok ke =
@@ -322,33 +370,43 @@ module _ (s : State) (h : Sound s) where
         ids = h .ids;
         tags = h .tags;
         sane = λ k m e. subst (λ (n : ℕ). Sane n (m .body)) (sym p) (h .sane k m e);
+        known = h .known;
+        apart = h .apart;
       }
 
-  sound-evicts : (n : ℕ) → n ≤ s .flow .last + 1 → Sound (evicts n s)
+  sound-evicts : (n : ℕ) → ahead n (s .flow) ≡ false → Sound (evicts n s)
   sound-evicts n q =
       sound-flow (evicted n (s .flow)) (evicts n s .careful) refl refl refl
-      (λ t. (t .0, and-left (s .careful) (not (s .flow .present) || leb n (s .flow .acked)) (t .1))) (flow-evicted (s .flow) (h .flow) n q)
+      (λ t. (t .0, and-left (s .careful) (not (s .flow .present) || leb n (s .flow .acked)) (t .1))) (fits-evicted (s .flow) (h .flow) n q)
       (λ l j e t k.
       let z = h .lines j l e .front (k .1) in
       let w = and-right (s .careful) (not (s .flow .present) || leb n (s .flow .acked)) (t .1) in
       let v : n ≤ s .flow .acked = leb-true n (s .flow .acked) (sym (ap (λ (p : Bool). not p || leb n (s .flow .acked)) (z .0)) ∙ w) in
       omega (arith, v, z .1, h .lines j l e .kept (t .0, and-left (s .careful) (not (s .flow .present) || leb n (s .flow .acked)) (t .1)) k .0))
 
-  sound-wrote : (len : ℕ) (opted : Bool) → isDone (answerOf (admitRows true len (s .flow) opted)) ≡ true → Sound (wrote opted s)
+  sound-wrote : (len : ℕ) (opted : Bool) → isDone (answerOf (writeRows len opted s)) ≡ true → Sound (wrote opted s)
   sound-wrote len opted d =
       record {
         lines = λ j l′ e. let w = find-map note j (s .lines) l′ e in each j l′ (w .0) (w .1) (w .2);
         held = λ j l′ e. let w = find-map note j (s .lines) l′ e in subst (λ (y : Line). Held (s .heads) j y) (sym (w .2)) (stands j (w .0) (h .held j (w .0) (w .1)));
-        flow = flow-admitted (s .flow) (h .flow) len opted (done-clear (admitRows true len (s .flow) opted) d);
+        flow = flow′;
         list = h .list;
         low = low-more (s .flow .last) (s .flow .last + 1) (s .heads) (omega arith) (h .low);
         ids = λ j l′ e. let w = find-map note j (s .lines) l′ e in h .ids j (w .0) (w .1);
         tags = h .tags;
         sane = λ k m e. sane-more (s .flow .last) (s .flow .last + 1) (omega arith) (m .body) (h .sane k m e);
+        known = λ j e. let w = h .known j e in (onServer note (w .0), find-mapped note j (s .lines) (w .0) (w .1));
+        apart = apart-map note (s .lines) (h .apart);
       }
     where
       note : Reader → Reader
       note = notified (s .flow .last + 1)
+
+      c : Clear (writeRows len opted s)
+      c = done-clear (writeRows len opted s) d
+
+      flow′ : Fits (admitted (s .flow) opted)
+      flow′ = fits-admitted (s .flow) (h .flow) opted (c .used-up) (c .store-full)
 
       stands : (j : ℕ) (l : Line) → Held (s .heads) j l → Held (s .heads) j (onServer (notified (s .flow .last + 1)) l)
       stands j l o = record { some-id = o .some-id; there = o .there; head = o .head }
@@ -356,9 +414,9 @@ module _ (s : State) (h : Sound s) where
       each : (j : ℕ) (l′ l : Line) → find j (s .lines) ≡ some l → l′ ≡ onServer (notified (s .flow .last + 1)) l → Fine (admitted (s .flow) opted) (s .careful) (s .net) l′
       each j l′ l e w =
           subst (λ (y : Line). Fine (admitted (s .flow) opted) (s .careful) (s .net) y) (sym w)
-          (fine-notified (s .flow) (s .careful) (s .net) l (h .lines j l e) (admitted (s .flow) opted) refl refl refl (λ t. t)
+          (fine-notified (s .flow) (s .careful) (s .net) l (h .lines j l e) (admitted (s .flow) opted) (flow′ .last-most) refl refl refl (λ t. t)
           (λ t k. ap (λ (b : Bool). cond b (max (s .flow .first) (s .flow .last + 2 - s .flow .limits .retain)) (s .flow .first))
-          (no-trim (s .flow) opted (t .0) (h .lines j l e .front (k .1) .0))))
+          (no-trim-with-readers (s .flow) opted (t .0) (h .lines j l e .front (k .1) .0))))
 
   -- THE NETWORK
 
@@ -388,7 +446,7 @@ module _ (s : State) (h : Sound s) where
       low = subst (λ (u : List ℕ). From (max 1 (l .server .acked)) u) q (fine .above) .0
 
       top : n ≤ s .flow .last
-      top = fine .fits .high n (ap (λ (u : List ℕ). has u n) q ∙ ap (λ (t : Bool). t || has ns n) (eq-eqb n n refl))
+      top = fine .within .high n (ap (λ (u : List ℕ). has u n) q ∙ ap (λ (t : Bool). t || has ns n) (eq-eqb n n refl))
 
       fair : (t : Bool) → Sane (s .flow .last) (cond t (sample n) (gap n))
       fair true = (omega (arith, low), top)
@@ -406,7 +464,7 @@ module _ (s : State) (h : Sound s) where
   sound-reply : (i : ℕ) (o : Option Line) → find i (s .lines) ≡ o → Sound (replyFrom i o s)
   sound-reply i none e = h
   sound-reply i (some l) e =
-      sound-post i (ack (ackNack (l .model))) (h .ids i l e) tt (λ l′ e′. subst (λ (y : Line). base (l .model) ≤ base (y .model)) (some-line (sym e ∙ e′)) (omega arith))
+      sound-post i (ack (ackNack (l .model))) (h .ids i l e) (base-last (s .flow) (s .careful) (s .net) l (h .lines i l e)) (λ l′ e′. subst (λ (y : Line). base (l .model) ≤ base (y .model)) (some-line (sym e ∙ e′)) (omega arith))
 
   sound-beat : (i : ℕ) (o : Option Line) → find i (s .lines) ≡ o → Sound (beatTo i o s)
   sound-beat i none e = h
@@ -414,15 +472,14 @@ module _ (s : State) (h : Sound s) where
 
   pub sound-step : (e : Event) → Sound (step e s)
   sound-step (match i r m) = sound-tried (matchRows i m s) s (joined i r m s) h (sound-joined i r m)
-  sound-step (depart i) = sound-tried (rowsOf (row 11 (unknown i s) ∷ [])) s (left i s) h (λ d. sound-left i)
-  sound-step (write len opted) = sound-tried (admitRows true len (s .flow) opted) s (wrote opted s) h (sound-wrote len opted)
+  sound-step (depart i) = sound-tried (departRows i s) s (left i s) h (λ d. sound-left i)
+  sound-step (write len opted) = sound-tried (writeRows len opted s) s (wrote opted s) h (sound-wrote len opted)
   sound-step (sentTo n) =
-      sound-tried (rowsOf (row 2 (ltb (s .flow .last) n) ∷ [])) s (withFlow (raised n (s .flow)) s) h
-      (λ d. sound-flow (raised n (s .flow)) (s .careful) refl refl refl (λ t. t)
-      (flow-raised (s .flow) (h .flow) n (ltb-false (s .flow .last) n (done-clear (rowsOf (row 2 (ltb (s .flow .last) n) ∷ [])) d .range))) (λ l j e t k. h .lines j l e .kept t k .0))
+      sound-tried (sentRows n s) s (withFlow (raised (rankOf n) (s .flow)) s) h
+      (λ d. sound-flow (raised (rankOf n) (s .flow)) (s .careful) refl refl refl (λ t. t)
+      (fits-raised (s .flow) (h .flow) (rankOf n) (done-clear (sentRows n s) d .range)) (λ l j e t k. h .lines j l e .kept t k .0))
   sound-step (evictTo n) =
-      sound-tried (rowsOf (row 2 (ahead n (s .flow)) ∷ [])) s (evicts n s) h
-      (λ d. sound-evicts n (ltb-false (s .flow .last + 1) n (done-clear (rowsOf (row 2 (ahead n (s .flow)) ∷ [])) d .range)))
+      sound-tried (evictRows n s) s (evicts (rankOf n) s) h (λ d. sound-evicts (rankOf n) (done-clear (evictRows n s) d .range))
   sound-step (call i d) = sound-call i d (find i (s .lines)) refl
   sound-step (heartbeat i) = sound-beat i (find i (s .lines)) refl
   sound-step (send i) = sound-send i (find i (s .lines)) refl
@@ -438,10 +495,12 @@ sound-start k l n a p q =
     record {
       lines = λ i l e. none-some e;
       held = λ i l e. none-some e;
-      flow = flow-blank k l a;
+      flow = fits-blank k l a;
       list = fits-free n p q;
       low = low-free 0 n;
       ids = λ i l e. none-some e;
       tags = λ k m e. none-msg e;
       sane = λ k m e. none-msg e;
+      known = λ i e. let k = known-is i (replicate n free) e in clash (isThere i (replicate n free)) (k .1) (free-none i n (k .0));
+      apart = tt;
     }

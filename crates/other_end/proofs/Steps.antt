@@ -1,74 +1,110 @@
--- The code does the system's steps: what a call's promise says of the head and the room that stand for a coherent reader, or of the record that stands for
--- a coherent flow, is the step of the system, its refusals included. Assumes nothing.
-use Prim.Native.Nat.{ℕ, suc, _+_, _-_, _≤_, _<_}
-use mathlib.Core.Path.{_≡_, refl, sym, ap, _∙_}
-use mathlib.Core.Bool.{Bool, true, false, not, _&&_, _||_}
-use mathlib.Core.Logic.{_⊎_, inl, inr}
+-- What the calls on one reader's record, and on the flow record, answer and leave on the forms of the system's records: the system's step, its refusals
+-- included. Assumes nothing.
+use Prim.Native.Nat.{ℕ, suc, _+_, _-_, _≤_}
+use mathlib.Core.Path.{_≡_, refl, ap, _∙_}
+use mathlib.Core.Bool.{Bool, true, false, not, cond, _&&_, _||_}
 use mathlib.Core.List.{List, [], _∷_}
 use lib.Dec.{ltb, leb}
 use lib.ListN.{length, take}
 use native.Mathlib.Omega.{arith}
-use borrow.Author.Tests.{leb-true, leb-false, lt-ltb, le-ltb, le-leb}
-use Rattle.sets.proofs.Bools.{decide, or-right}
-use Rattle.numbers.specs.Number.{topNumber, rankOf, negative, isSample, numberAt}
-use Rattle.numbers.proofs.Ranks.{rank-back, range-of}
-use Rattle.numbers.specs.Refusals.{Row, row, rowsOf, unless, done}
-use Rattle.numbers.specs.Promise.{Left1}
+use borrow.Author.Tests.{le-ltb, le-leb}
+use Rattle.sets.proofs.Bools.{and-left, and-right, and-both}
+use Rattle.numbers.specs.Number.{topNumber, rankOf, negative, isSample, inRange, numberAt}
+use Rattle.numbers.specs.Refusals.{Row, row, rowsOf, answerOf, isDone, unless, done}
+use Rattle.numbers.specs.Promise.{Left1, Left2}
 use Rattle.numbers.specs.declared.answer.Answer.{Answer}
 use Rattle.numbers.specs.declared.answer.Rows.{Rows}
+use Rattle.numbers.specs.declared.sequence_number.SequenceNumber.{SequenceNumber}
+use Rattle.numbers.proofs.Ranks.{rank-back, range-of}
+use Rattle.number_sets.specs.Bits.{NumberSet, members}
+use Rattle.number_sets.specs.Calls.{fragmentSet}
 use Rattle.rising.proofs.Meaning.{room-take}
+use Rattle.requested_fragments.specs.Table.{samplesRoom, wordsRoom}
+use Rattle.requested_fragments.proofs.Both.{rooms-hold}
 use Rattle.rtps_reader_proxy.specs.declared.proxy.Changed.{Changed}
-use Rattle.rtps_reader_proxy.specs.Reader.{Reader, markedSent, removedBefore, notified, needsRoom, gapInserted, gapUpTo}
+use Rattle.rtps_reader_proxy.specs.declared.acks.AckNacked.{AckNacked}
+use Rattle.rtps_reader_proxy.specs.Reader.{Reader, acknowledge, leftOut, markedSent, removedBefore, notified, gapInserted, gapUpTo, fragsRequested, fragSent}
 use Rattle.rtps_reader_proxy.specs.Record.{unsentOk, gapsOk, headOf, unsentRoom, gapRoom}
-use Rattle.rtps_reader_proxy.specs.Unsent.{byUnsent, countUnsent, unsentBy, notifiedOf, markedSentOf, removedBeforeOf}
-use Rattle.rtps_reader_proxy.specs.Gaps.{byGaps, countGaps, gapsBy, beyond, gapInsertedOf, gapUpToOf}
+use Rattle.rtps_reader_proxy.specs.Unsent.{byUnsent, countUnsent, unsentBy, notifiedOf}
+use Rattle.rtps_reader_proxy.specs.Gaps.{byGaps, countGaps, gapsBy, memberRows, endRows}
+use Rattle.rtps_reader_proxy.specs.Fragments.{fragsOk, byFrags, countFrags, fragsBy, requestRows}
+use Rattle.rtps_reader_proxy.specs.Acks.{byBoth, headAfter, ackRowsOf, ackNackedOf}
+use Rattle.reader_record.specs.Whole.{form, Valid}
+use Rattle.reader_record.proofs.Whole.{entries-in, form-coherent}
+use Rattle.reader_list.specs.Slots.{frontierAt}
+use Rattle.reader_list.proofs.Smallest.{frontier-back}
 use Rattle.writer_send_buffer.specs.declared.flow.WriterSendBuffer.{WriterSendBuffer}
 use Rattle.writer_send_buffer.specs.declared.flow.Told.{Told}
-use Rattle.reader_list.specs.declared.heads.AckedFrontier.{AckedFrontier}
-use Rattle.reader_list.specs.Slots.{frontierOf}
-use Rattle.writer_send_buffer.specs.Flow.{Flow, ahead, stored, wakes, raised, evicted}
-use Rattle.writer_send_buffer.specs.Buffer.{view, form, isCoherent, ranged, toldNo, ackedOf, sentOf, evictOf}
-use Rattle.other_end.specs.Calls.{gapAt, gapTo, markSent, removeBefore, result, callRows}
-use Rattle.other_end.specs.Coherent.{ReaderFits}
-use Rattle.other_end.proofs.Flows.{FlowOk}
-use Rattle.other_end.proofs.Tests.{not-below, passes-tests, view-form, flow-coherent}
+use Rattle.writer_send_buffer.specs.Flow.{Flow, ahead, unwritten, stored, wakes, raised, evicted}
+use Rattle.writer_send_buffer.specs.Buffer.{view, form as flowForm, isCoherent, ranged, toldNo, ackedOf, sentOf, evictOf}
+use Rattle.writer_send_buffer.proofs.Sound.{Fits}
+use Rattle.writer_send_buffer.proofs.Steps.{at-least-0, view-form, form-coherent as flow-coherent}
+use Rattle.other_end.specs.Calls.{Call, gapAt, gapTo, askFrags, sentFrag, markSent, removeBefore, result, callRows}
+use Rattle.other_end.specs.AsCalled.{setForm, Outcome, onUnsent, onGaps, onFrags, calledOn}
 
--- what is left of the reader r by a call that turns it to r′ unless a row holds: its head, and the room that was lent
-abbrev pub leaves : Rows → (Reader → List ℕ) → Reader → Reader → Left1 Changed (List ℕ)
-leaves rows room r r′ =
-    unless rows
-    (λ a. record { result = record { answer = a; proxy = headOf r }; first = room r })
-    (record { result = record { answer = done; proxy = headOf r′ }; first = room r′ })
+-- a function of what comes of a call
+pub unless-map : {A B : Type 0} (g : A → B) (rows : Rows) (f : Answer → A) (d : A) → g (unless rows f d) ≡ unless rows (λ a. g (f a)) (g d)
+unless-map {A} {B} g rows f d = go (isDone (answerOf rows))
+  where
+    go : (t : Bool) → g (cond t d (f (answerOf rows))) ≡ cond t (g d) (g (f (answerOf rows)))
+    go true = refl
+    go false = refl
 
--- what a call sees that is lent one room
+-- what is left of the reader r by a call that turns it to r′ unless a row holds
+abbrev pub leaves : Rows → Reader → Reader → Outcome
+leaves rows r r′ = unless rows (λ a. record { answer = a; left = form r }) (record { answer = done; left = form r′ })
+
+-- what a call sees that is lent one room, or the fragments' rooms
 abbrev seenUnsent : Reader → Reader
 seenUnsent r = record { acked = r .acked; cap = r .cap; unsent = r .unsent; prefix = r .prefix; gaps = take (length (r .gaps)) []; frags = [] }
 
 abbrev seenGaps : Reader → Reader
 seenGaps r = record { acked = r .acked; cap = r .cap; unsent = take (length (r .unsent)) []; prefix = r .prefix; gaps = r .gaps; frags = [] }
 
-module _ (r : Reader) (h : ReaderFits topNumber r) where
-  by-unsent : byUnsent (headOf r) (unsentRoom r) ≡ seenUnsent r
-  by-unsent = λ i.
-      record {
-        acked = rank-back (r .acked) (omega (arith, h .acked)) i;
-        cap = r .cap;
-        unsent = room-take (r .cap) (r .unsent) i;
-        prefix = rank-back (r .prefix) (omega (arith, h .prefix)) i;
-        gaps = take (length (r .gaps)) [];
-        frags = [];
-      }
+abbrev seenFrags : Reader → Reader
+seenFrags r = record { acked = r .acked; cap = r .cap; unsent = take (length (r .unsent)) []; prefix = r .prefix; gaps = take (length (r .gaps)) []; frags = r .frags }
+
+abbrev seenBoth : Reader → Reader
+seenBoth r = record { acked = r .acked; cap = r .cap; unsent = r .unsent; prefix = r .prefix; gaps = r .gaps; frags = [] }
+
+module _ (r : Reader) (v : Valid r) where
+  abbrev samples : List ℕ
+  samples = samplesRoom (r .frags)
+
+  abbrev words : List ℕ
+  words = wordsRoom (r .frags)
+
+  -- the calls' own tests
+  pub unsent-ok : unsentOk (headOf r) (unsentRoom r) ≡ true
+  unsent-ok = and-left (unsentOk (headOf r) (unsentRoom r)) _ (form-coherent r v)
+
+  rest-ok : (gapsOk (headOf r) (gapRoom r) && fragsOk (headOf r) samples words) ≡ true
+  rest-ok = and-right (unsentOk (headOf r) (unsentRoom r)) (gapsOk (headOf r) (gapRoom r) && fragsOk (headOf r) samples words) (form-coherent r v)
+
+  pub gaps-ok : gapsOk (headOf r) (gapRoom r) ≡ true
+  gaps-ok = and-left (gapsOk (headOf r) (gapRoom r)) _ rest-ok
+
+  frags-ok : fragsOk (headOf r) samples words ≡ true
+  frags-ok = and-right (gapsOk (headOf r) (gapRoom r)) (fragsOk (headOf r) samples words) rest-ok
+
+  acked-is : rankOf (numberAt (r .acked)) ≡ r .acked
+  acked-is = rank-back (r .acked) (omega (arith, v .acked))
+
+  prefix-is : rankOf (numberAt (r .prefix)) ≡ r .prefix
+  prefix-is = rank-back (r .prefix) (omega (arith, v .prefix))
+
+  pub by-unsent : byUnsent (headOf r) (unsentRoom r) ≡ seenUnsent r
+  by-unsent = λ i. record { acked = acked-is i; cap = r .cap; unsent = room-take (r .cap) (r .unsent) i; prefix = prefix-is i; gaps = take (length (r .gaps)) []; frags = [] }
 
   by-gaps : byGaps (headOf r) (gapRoom r) ≡ seenGaps r
-  by-gaps = λ i.
-      record {
-        acked = rank-back (r .acked) (omega (arith, h .acked)) i;
-        cap = r .cap;
-        unsent = take (length (r .unsent)) [];
-        prefix = rank-back (r .prefix) (omega (arith, h .prefix)) i;
-        gaps = room-take 256 (r .gaps) i;
-        frags = [];
-      }
+  by-gaps = λ i. record { acked = acked-is i; cap = r .cap; unsent = take (length (r .unsent)) []; prefix = prefix-is i; gaps = room-take 256 (r .gaps) i; frags = [] }
+
+  by-frags : byFrags (headOf r) samples words ≡ seenFrags r
+  by-frags = λ i.
+      record { acked = acked-is i; cap = r .cap; unsent = take (length (r .unsent)) []; prefix = prefix-is i; gaps = take (length (r .gaps)) []; frags = rooms-hold (r .frags) (entries-in r v) i }
+
+  by-both : byBoth (headOf r) (unsentRoom r) (gapRoom r) ≡ seenBoth r
+  by-both = λ i. record { acked = acked-is i; cap = r .cap; unsent = room-take (r .cap) (r .unsent) i; prefix = prefix-is i; gaps = room-take 256 (r .gaps) i; frags = [] }
 
   -- THE UNSENT NUMBERS
 
@@ -78,17 +114,12 @@ module _ (r : Reader) (h : ReaderFits topNumber r) where
       (λ a. record { result = record { answer = a; proxy = headOf r }; first = unsentRoom r })
       (record { result = record { answer = done; proxy = countUnsent (length (f x .unsent)) (headOf r) }; first = unsentRoom (f x) })
 
-  by-unsent-is : (rows : List Row) (f : Reader → Reader) → unsentBy rows f (headOf r) (unsentRoom r) ≡ unsentOut false rows f (seenUnsent r)
-  by-unsent-is rows f = ap (λ (x : Reader). unsentOut (not (unsentOk (headOf r) (unsentRoom r))) rows f x) by-unsent ∙ ap (λ (t : Bool). unsentOut (not t) rows f (seenUnsent r)) (passes-tests r h .unsent)
-
-  pub does-markSent : (last n : ℕ) → n < 9223372036854775808 → markedSentOf (numberAt n) (headOf r) (unsentRoom r) ≡ leaves (callRows last (markSent n) r) unsentRoom r (result (markSent n) r)
-  does-markSent last n q = by-unsent-is [] (markedSent (rankOf (numberAt n))) ∙ ap (λ (k : ℕ). unsentOut false [] (markedSent k) (seenUnsent r)) (rank-back n q)
-
-  pub does-removeBefore : (last n : ℕ) → n < 9223372036854775808 → removedBeforeOf (numberAt n) (headOf r) (unsentRoom r) ≡ leaves (callRows last (removeBefore n) r) unsentRoom r (result (removeBefore n) r)
-  does-removeBefore last n q = by-unsent-is [] (removedBefore (rankOf (numberAt n))) ∙ ap (λ (k : ℕ). unsentOut false [] (removedBefore k) (seenUnsent r)) (rank-back n q)
+  pub by-unsent-is : (rows : List Row) (f : Reader → Reader) → unsentBy rows f (headOf r) (unsentRoom r) ≡ unsentOut false rows f (seenUnsent r)
+  by-unsent-is rows f = ap (λ (x : Reader). unsentOut (not (unsentOk (headOf r) (unsentRoom r))) rows f x) by-unsent ∙ ap (λ (t : Bool). unsentOut (not t) rows f (seenUnsent r)) unsent-ok
 
   -- a new sample's number is never out of range: a write is refused with 5 before
-  pub does-notify : (n : ℕ) → 1 ≤ n → n ≤ topNumber → notifiedOf (numberAt n) (headOf r) (unsentRoom r) ≡ leaves (rowsOf []) unsentRoom r (notified n r)
+  pub does-notify : (n : ℕ) → 1 ≤ n → n ≤ topNumber
+      → notifiedOf (numberAt n) (headOf r) (unsentRoom r) ≡ record { result = record { answer = done; proxy = headOf (notified n r) }; first = unsentRoom (notified n r) }
   does-notify n p q =
       by-unsent-is (row 2 (not (isSample (numberAt n))) ∷ []) (notified (rankOf (numberAt n)))
       ∙ ap (λ (k : ℕ). unsentOut false (row 2 (not (leb 1 k && leb k topNumber)) ∷ []) (notified k) (seenUnsent r)) (rank-back n (omega arith))
@@ -105,79 +136,102 @@ module _ (r : Reader) (h : ReaderFits topNumber r) where
 
   by-gaps-is : (rows : Reader → List Row) (f : Reader → Reader) → gapsBy (rows (byGaps (headOf r) (gapRoom r))) f (headOf r) (gapRoom r) ≡ gapsOut false (rows (seenGaps r)) f (seenGaps r)
   by-gaps-is rows f =
-      ap (λ (x : Reader). gapsOut (not (gapsOk (headOf r) (gapRoom r))) (rows x) f x) by-gaps ∙ ap (λ (t : Bool). gapsOut (not t) (rows (seenGaps r)) f (seenGaps r)) (passes-tests r h .gaps)
+      ap (λ (x : Reader). gapsOut (not (gapsOk (headOf r) (gapRoom r))) (rows x) f x) by-gaps ∙ ap (λ (t : Bool). gapsOut (not t) (rows (seenGaps r)) f (seenGaps r)) gaps-ok
 
+  -- REQUESTED FRAGMENTS
+
+  abbrev fragsOut : Bool → List Row → (Reader → Reader) → Reader → Left2 Changed (List ℕ) (List ℕ)
+  fragsOut t rows f x =
+      unless (rowsOf (row 1 t ∷ rows))
+      (λ a. record { result = record { answer = a; proxy = headOf r }; first = samples; second = words })
+      (record { result = record { answer = done; proxy = countFrags (length (f x .frags)) (headOf r) }; first = samplesRoom (f x .frags); second = wordsRoom (f x .frags) })
+
+  by-frags-is : (rows : Reader → List Row) (f : Reader → Reader) → fragsBy (rows (byFrags (headOf r) samples words)) f (headOf r) samples words ≡ fragsOut false (rows (seenFrags r)) f (seenFrags r)
+  by-frags-is rows f =
+      ap (λ (x : Reader). fragsOut (not (fragsOk (headOf r) samples words)) (rows x) f x) by-frags ∙ ap (λ (t : Bool). fragsOut (not t) (rows (seenFrags r)) f (seenFrags r)) frags-ok
+
+  -- EVERY ONE OF THESE CALLS, where `last` is the last number written
   module _ (last : ℕ) (top : last ≤ topNumber) where
-    -- the code's test of a number against `last`
-    beyond-is : (n : ℕ) → n < 9223372036854775808 → beyond (numberAt n) (numberAt last) ≡ ltb last n
-    beyond-is n q =
-        ap (λ (t : Bool). not t || ltb (rankOf (numberAt last)) (rankOf (numberAt n))) (range-of last topNumber (omega arith) top)
-        ∙ ap (λ (k : ℕ). ltb k (rankOf (numberAt n))) (rank-back last (omega arith)) ∙ ap (λ (k : ℕ). ltb last k) (rank-back n q)
+    -- the code's test of `last`
+    within : inRange (numberAt last) topNumber ≡ true
+    within = range-of last topNumber (omega arith) top
 
-    pub does-gapTo : (e : ℕ) → e < 9223372036854775808 → gapUpToOf (numberAt e) (numberAt last) (headOf r) (gapRoom r) ≡ leaves (callRows last (gapTo e) r) gapRoom r (result (gapTo e) r)
-    does-gapTo e q =
-        by-gaps-is (λ x. row 2 (negative (numberAt e) || beyond (numberAt e) (numberAt last)) ∷ []) (gapUpTo (rankOf (numberAt e)))
-        ∙ ap (λ (k : ℕ). gapsOut false (row 2 (negative (numberAt e) || beyond (numberAt e) (numberAt last)) ∷ []) (gapUpTo k) (seenGaps r)) (rank-back e q)
-        ∙ ap (λ (t : Bool). gapsOut false (row 2 (negative (numberAt e) || t) ∷ []) (gapUpTo e) (seenGaps r)) (beyond-is e q)
-        ∙ ap (λ (t : Bool). gapsOut false (row 2 (t || ltb last e) ∷ []) (gapUpTo e) (seenGaps r)) (not-below e q)
+    last-is : rankOf (numberAt last) ≡ last
+    last-is = rank-back last (omega (arith, top))
 
-    -- the code's tests of a gap member, in the system's words
-    out-is : (n : ℕ) → n < 9223372036854775808 → (not (isSample (numberAt n)) || beyond (numberAt n) (numberAt last)) ≡ not (leb 1 n && leb n last)
-    out-is n q =
-        ap (λ (k : ℕ). not (leb 1 k && leb k topNumber) || beyond (numberAt n) (numberAt last)) (rank-back n q)
-        ∙ ap (λ (t : Bool). not (leb 1 n && leb n topNumber) || t) (beyond-is n q)
-        ∙ go (leb 1 n) (decide (leb n last))
-      where
-        go : (t : Bool) → (leb n last ≡ true) ⊎ (leb n last ≡ false) → (not (t && leb n topNumber) || ltb last n) ≡ not (t && leb n last)
-        go false d = refl
-        go true (inl d) =
-            let w : n ≤ last = leb-true n last d in
-            ap (λ (t : Bool). not t || ltb last n) (le-leb n topNumber (omega arith)) ∙ le-ltb last n w ∙ sym (ap not d)
-        go true (inr d) = or-right (not (leb n topNumber)) (ltb last n) (lt-ltb last n (leb-false n last d)) ∙ sym (ap not d)
+    pub does-call : (c : Call) → calledOn c (numberAt last) (form r) ≡ leaves (callRows last c r) r (result c r)
+    does-call (gapAt n) =
+        let f = gapInserted (rankOf n) in
+        ap (onGaps (form r)) (by-gaps-is (λ x. memberRows (not (inRange (numberAt last) topNumber)) (rankOf (numberAt last)) (rankOf n) (length (r .gaps)) x) f
+        ∙ ap (λ (t : Bool). gapsOut false (memberRows (not t) (rankOf (numberAt last)) (rankOf n) (length (r .gaps)) (seenGaps r)) f (seenGaps r)) within
+        ∙ ap (λ (k : ℕ). gapsOut false (memberRows false k (rankOf n) (length (r .gaps)) (seenGaps r)) f (seenGaps r)) last-is)
+        ∙ unless-map (onGaps (form r)) (callRows last (gapAt n) r) (λ a. record { result = record { answer = a; proxy = headOf r }; first = gapRoom r }) _
+    does-call (gapTo e) =
+        let f = gapUpTo (rankOf e) in
+        ap (onGaps (form r)) (by-gaps-is (λ x. endRows (not (inRange (numberAt last) topNumber)) (rankOf (numberAt last)) (negative e) (rankOf e)) f
+        ∙ ap (λ (t : Bool). gapsOut false (endRows (not t) (rankOf (numberAt last)) (negative e) (rankOf e)) f (seenGaps r)) within
+        ∙ ap (λ (k : ℕ). gapsOut false (endRows false k (negative e) (rankOf e)) f (seenGaps r)) last-is)
+        ∙ unless-map (onGaps (form r)) (callRows last (gapTo e) r) (λ a. record { result = record { answer = a; proxy = headOf r }; first = gapRoom r }) _
+    does-call (askFrags n z) =
+        ap (onFrags (form r)) (by-frags-is (λ x. requestRows (rankOf n) (fragmentSet z) (length (r .frags)) x) (fragsRequested (rankOf n) (members (fragmentSet z))))
+        ∙ unless-map (onFrags (form r)) (callRows last (askFrags n z) r) (λ a. record { result = record { answer = a; proxy = headOf r }; first = samples; second = words }) _
+    does-call (sentFrag n f) = ap (onFrags (form r)) (by-frags-is (λ x. []) (fragSent (rankOf n) (f .0)))
+    does-call (markSent n) = ap (onUnsent (form r)) (by-unsent-is [] (markedSent (rankOf n)))
+    does-call (removeBefore n) = ap (onUnsent (form r)) (by-unsent-is [] (removedBefore (rankOf n)))
 
-    and-swap : (a b : Bool) → (a && b) ≡ (b && a)
-    and-swap true true = refl
-    and-swap true false = refl
-    and-swap false true = refl
-    and-swap false false = refl
+    -- AN ACKNOWLEDGEMENT
+    abbrev ackOut : Bool → Bool → ℕ → NumberSet → Reader → Left2 AckNacked (List ℕ) (List ℕ)
+    ackOut ok out k z x =
+        unless (ackRowsOf ok z out false k)
+        (λ a. record { result = record { answer = a; «left_out» = 0; proxy = headOf r }; first = unsentRoom r; second = gapRoom r })
+        (record {
+          result = record { answer = done; «left_out» = leftOut k (z .base) (members z) x; proxy = headAfter (acknowledge k (z .base) (members z) x) (headOf r) };
+          first = unsentRoom (acknowledge k (z .base) (members z) x);
+          second = gapRoom (acknowledge k (z .base) (members z) x);
+        })
 
-    pub does-gapAt : (n : ℕ) → n < 9223372036854775808 → gapInsertedOf (numberAt n) (numberAt last) (headOf r) (gapRoom r) ≡ leaves (callRows last (gapAt n) r) gapRoom r (result (gapAt n) r)
-    does-gapAt n q =
-        by-gaps-is (λ x. row 2 (not (isSample (numberAt n)) || beyond (numberAt n) (numberAt last)) ∷ row 9 (leb 256 (length (r .gaps)) && needsRoom (rankOf (numberAt n)) x) ∷ []) (gapInserted (rankOf (numberAt n)))
-        ∙ ap (λ (k : ℕ). gapsOut false (row 2 (not (isSample (numberAt n)) || beyond (numberAt n) (numberAt last)) ∷ row 9 (leb 256 (length (r .gaps)) && needsRoom k r) ∷ []) (gapInserted k) (seenGaps r)) (rank-back n q)
-        ∙ ap (λ (t : Bool). gapsOut false (row 2 t ∷ row 9 (leb 256 (length (r .gaps)) && needsRoom n r) ∷ []) (gapInserted n) (seenGaps r)) (out-is n q)
-        ∙ ap (λ (t : Bool). gapsOut false (row 2 (not (leb 1 n && leb n last)) ∷ row 9 t ∷ []) (gapInserted n) (seenGaps r)) (and-swap (leb 256 (length (r .gaps))) (needsRoom n r))
+    abbrev pub acksOf : NumberSet → Left2 AckNacked (List ℕ) (List ℕ)
+    acksOf z =
+        unless (ackRowsOf true z false false last)
+        (λ a. record { result = record { answer = a; «left_out» = 0; proxy = headOf r }; first = unsentRoom r; second = gapRoom r })
+        (record {
+          result = record { answer = done; «left_out» = leftOut last (z .base) (members z) r; proxy = headOf (acknowledge last (z .base) (members z) r) };
+          first = unsentRoom (acknowledge last (z .base) (members z) r);
+          second = gapRoom (acknowledge last (z .base) (members z) r);
+        })
+
+    pub does-ack : (z : NumberSet) → z .base ≤ suc last → ackNackedOf (setForm z) (numberAt last) (headOf r) (unsentRoom r) (gapRoom r) ≡ acksOf z
+    does-ack z q =
+        let ok = and-both (unsentOk (headOf r) (unsentRoom r)) (gapsOk (headOf r) (gapRoom r)) unsent-ok gaps-ok in
+        let no : (negative (numberAt (z .base)) || not (inRange (numberAt last) topNumber)) ≡ false = ap (λ (t : Bool). t || not (inRange (numberAt last) topNumber)) (at-least-0 (z .base)) ∙ ap not within in
+        ap (λ (b : ℕ). ackOut (unsentOk (headOf r) (unsentRoom r) && gapsOk (headOf r) (gapRoom r)) (negative (numberAt (z .base)) || not (inRange (numberAt last) topNumber)) (rankOf (numberAt last)) (record { base = b; count = z .count; words = z .words }) (byBoth (headOf r) (unsentRoom r) (gapRoom r))) (rank-back (z .base) (omega (arith, top)))
+        ∙ ap (λ (x : Reader). ackOut (unsentOk (headOf r) (unsentRoom r) && gapsOk (headOf r) (gapRoom r)) (negative (numberAt (z .base)) || not (inRange (numberAt last) topNumber)) (rankOf (numberAt last)) z x) by-both
+        ∙ ap (λ (k : ℕ). ackOut (unsentOk (headOf r) (unsentRoom r) && gapsOk (headOf r) (gapRoom r)) (negative (numberAt (z .base)) || not (inRange (numberAt last) topNumber)) k z (seenBoth r)) last-is
+        ∙ ap (λ (t : Bool). ackOut t (negative (numberAt (z .base)) || not (inRange (numberAt last) topNumber)) last z (seenBoth r)) ok
+        ∙ ap (λ (t : Bool). ackOut true t last z (seenBoth r)) no
 
 -- THE FLOW RECORD
 
--- what is left of the flow f by a call that turns it to f′ unless a row holds, and tells a yes or no then
-abbrev pub leavesFlow : Rows → Bool → Flow → Flow → Left1 Told WriterSendBuffer
-leavesFlow rows told f f′ = unless rows (λ a. record { result = toldNo a; first = form f }) (record { result = record { answer = done; yes = told }; first = form f′ })
-
-module _ (f : Flow) (h : FlowOk f) where
-  -- the rows of the code and of the system: coherent, and a number out of range
+module _ (f : Flow) (h : Fits f) where
   abbrev flowOut : Bool → Bool → Bool → Flow → Left1 Told WriterSendBuffer
-  flowOut coh out told g = unless (ranged coh out) (λ a. record { result = toldNo a; first = form f }) (record { result = record { answer = done; yes = told }; first = form g })
+  flowOut coh out told g = unless (ranged coh out) (λ a. record { result = toldNo a; first = flowForm f }) (record { result = record { answer = done; yes = told }; first = flowForm g })
 
   -- "stores the frontier": never refused in the system, since it is never past last + 1
-  pub does-store : (a : AckedFrontier) → frontierOf a ≤ suc (f .last) → ackedOf (form f) a ≡ leavesFlow (rowsOf []) (wakes (frontierOf a) f) f (stored (frontierOf a) f)
-  does-store a q =
-      ap (λ (g : Flow). flowOut (isCoherent (form f)) (ahead (frontierOf a) g) (wakes (frontierOf a) g) (stored (frontierOf a) g)) (view-form f h)
-      ∙ ap (λ (t : Bool). flowOut t (ahead (frontierOf a) f) (wakes (frontierOf a) f) (stored (frontierOf a) f)) (flow-coherent f h)
-      ∙ ap (λ (t : Bool). flowOut true t (wakes (frontierOf a) f) (stored (frontierOf a) f)) (le-ltb (f .last + 1) (frontierOf a) (omega (arith, q)))
+  pub does-store : (n : ℕ) → n ≤ suc (f .last) → ackedOf (flowForm f) (frontierAt n) ≡ record { result = record { answer = done; yes = wakes n f }; first = flowForm (stored n f) }
+  does-store n q =
+      ap (λ (k : ℕ). flowOut (isCoherent (flowForm f)) (ahead k (view (flowForm f))) (wakes k (view (flowForm f))) (stored k (view (flowForm f)))) (frontier-back n (omega (arith, h .last-most)))
+      ∙ ap (λ (g : Flow). flowOut (isCoherent (flowForm f)) (ahead n g) (wakes n g) (stored n g)) (view-form f h)
+      ∙ ap (λ (t : Bool). flowOut t (ahead n f) (wakes n f) (stored n f)) (flow-coherent f h)
+      ∙ ap (λ (t : Bool). flowOut true t (wakes n f) (stored n f)) (le-ltb (f .last + 1) n (omega (arith, q)))
 
-  pub does-sent : (n : ℕ) → n < 9223372036854775808 → sentOf (form f) (numberAt n) ≡ leavesFlow (rowsOf (row 2 (ltb (f .last) n) ∷ [])) (ltb (f .sent) n) f (raised n f)
-  does-sent n q =
-      ap (λ (k : ℕ). flowOut (isCoherent (form f)) (ltb (view (form f) .last) k) (ltb (view (form f) .sent) k) (raised k (view (form f)))) (rank-back n q)
-      ∙ ap (λ (g : Flow). flowOut (isCoherent (form f)) (ltb (g .last) n) (ltb (g .sent) n) (raised n g)) (view-form f h)
-      ∙ ap (λ (t : Bool). flowOut t (ltb (f .last) n) (ltb (f .sent) n) (raised n f)) (flow-coherent f h)
+  pub does-sent : (n : SequenceNumber) → sentOf (flowForm f) n ≡ flowOut true (unwritten (rankOf n) f) (ltb (f .sent) (rankOf n)) (raised (rankOf n) f)
+  does-sent n =
+      ap (λ (g : Flow). flowOut (isCoherent (flowForm f)) (unwritten (rankOf n) g) (ltb (g .sent) (rankOf n)) (raised (rankOf n) g)) (view-form f h)
+      ∙ ap (λ (t : Bool). flowOut t (unwritten (rankOf n) f) (ltb (f .sent) (rankOf n)) (raised (rankOf n) f)) (flow-coherent f h)
 
   abbrev evictOut : Bool → Bool → Flow → Left1 Answer WriterSendBuffer
-  evictOut coh out g = unless (ranged coh out) (λ a. record { result = a; first = form f }) (record { result = done; first = form g })
+  evictOut coh out g = unless (ranged coh out) (λ a. record { result = a; first = flowForm f }) (record { result = done; first = flowForm g })
 
-  pub does-evict : (n : ℕ) → n < 9223372036854775808
-      → evictOf (form f) (numberAt n) ≡ unless (rowsOf (row 2 (ahead n f) ∷ [])) (λ a. record { result = a; first = form f }) (record { result = done; first = form (evicted n f) })
-  does-evict n q =
-      ap (λ (k : ℕ). evictOut (isCoherent (form f)) (ahead k (view (form f))) (evicted k (view (form f)))) (rank-back n q)
-      ∙ ap (λ (g : Flow). evictOut (isCoherent (form f)) (ahead n g) (evicted n g)) (view-form f h)
-      ∙ ap (λ (t : Bool). evictOut t (ahead n f) (evicted n f)) (flow-coherent f h)
+  pub does-evict : (n : SequenceNumber) → evictOf (flowForm f) n ≡ evictOut true (ahead (rankOf n) f) (evicted (rankOf n) f)
+  does-evict n =
+      ap (λ (g : Flow). evictOut (isCoherent (flowForm f)) (ahead (rankOf n) g) (evicted (rankOf n) g)) (view-form f h) ∙ ap (λ (t : Bool). evictOut t (ahead (rankOf n) f) (evicted (rankOf n) f)) (flow-coherent f h)

@@ -13,6 +13,7 @@ use Rattle.other_end.specs.Model.{base}
 use Rattle.other_end.specs.System.{Line, State, Event, find, run, start}
 use Rattle.other_end.specs.Rounds.{Round, Rounds, cleanRound, cleanRounds}
 use Rattle.other_end.specs.Coherent.{Coherent}
+use Rattle.other_end.specs.AsCalled.{AsCalled}
 
 -- a state that the system comes to, from a new writer of any kind with any limits of the table and room for 1 to 64 readers, by any events in any order
 pub record Reached (s : State) : Type 0 where
@@ -82,3 +83,5 @@ pub record Demand3 : Type 0 where
   pub always : (s : State) (i : ℕ) (l : Line) → Present s i l → (r : ℕ) → Rounds i r s (cleanRounds i r s)
   -- no call of the system is refused with 1
   pub coherent : (s : State) → Reached s → Coherent s
+  -- and every event of the writer is what its calls do: so all of the above is about these calls
+  pub calls : (s : State) → Reached s → (e : Event) → AsCalled e s

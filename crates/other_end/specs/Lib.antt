@@ -4,4 +4,5 @@ pub mod Calls
 pub mod System
 pub mod Rounds
 pub mod Coherent
+pub mod AsCalled
 pub mod Demand3

@@ -2,20 +2,25 @@
 -- neither alters nor invents: it is the list of all messages ever sent, of which any may arrive at any time, any number of times, or never.
 -- A step is a function, a run a fold over events; every run computes. Assumes nothing.
 use Prim.Native.Nat.{ℕ, zero, suc, _+_}
-use mathlib.Core.Bool.{Bool, true, not, cond, _&&_, _||_}
+use mathlib.Core.Bool.{Bool, true, false, not, cond, _&&_, _||_}
 use mathlib.Core.List.{List, [], _∷_, map}
 use mathlib.Core.Option.{Option, none, some}
-use lib.Dec.{ltb, leb, eqb}
-use lib.ListN.{length, replicate}
+use lib.Dec.{leb, eqb}
+use lib.ListN.{replicate}
 use Rattle.sets.specs.Sets.{has}
-use Rattle.numbers.specs.Refusals.{row, rowsOf, unless}
+use Rattle.numbers.specs.Number.{rankOf}
+use Rattle.numbers.specs.Refusals.{unless}
 use Rattle.numbers.specs.declared.answer.Rows.{Rows}
+use Rattle.numbers.specs.declared.sequence_number.SequenceNumber.{SequenceNumber}
 use Rattle.number_sets.specs.Bits.{NumberSet, members}
-use Rattle.rtps_reader_proxy.specs.Reader.{Reader, fresh, isAhead, ackedAfter, acknowledge, notified, markedSent}
-use Rattle.reader_list.specs.Readers.{Head, free, frontier, isThere, headAt, matched, departed, acknowledged}
+use Rattle.rtps_reader_proxy.specs.Reader.{Reader, fresh, ackedAfter, acknowledge, notified, markedSent}
+use Rattle.rtps_reader_proxy.specs.Acks.{ackRowsOf}
+use Rattle.reader_list.specs.Readers.{Head, free, frontier, headAt, matched, departed, acknowledged}
+use Rattle.reader_list.specs.Slots.{unknown, matchRowsOf, departRowsOf}
 use Rattle.writer_send_buffer.specs.declared.limits.Kind.{Kind}
 use Rattle.writer_send_buffer.specs.declared.limits.Limits.{Limits}
-use Rattle.writer_send_buffer.specs.Flow.{Flow, blank, admitRows, admitted, ahead, stored, raised, evicted, retained}
+use Rattle.writer_send_buffer.specs.Flow.{Flow, blank, admitRows, admitted, ahead, unwritten, stored, raised, evicted, retained}
+use Rattle.writer_send_buffer.specs.Buffer.{ranged}
 use Rattle.other_end.specs.Model.{Model, unread, gotData, gotGap, gotBeat, ackNack}
 use Rattle.other_end.specs.Calls.{Call, result, callRows}
 
@@ -52,13 +57,14 @@ pub record State : Type 0 where
   pub careful : Bool
   pub net : List Msg
 
--- a match has an id, whether the reader is reliable, and its cap; a write the payload's length and whether it opted in to block
+-- a match has an id, whether the reader is reliable, and its cap; a write the payload's length and whether it opted in to block. Numbers are of the
+-- types that the calls take
 pub data Event : Type 0 where
   match : ℕ → Bool → ℕ → Event
   depart : ℕ → Event
   write : ℕ → Bool → Event
-  sentTo : ℕ → Event
-  evictTo : ℕ → Event
+  sentTo : SequenceNumber → Event
+  evictTo : SequenceNumber → Event
   call : ℕ → Call → Event
   heartbeat : ℕ → Event
   send : ℕ → Event
@@ -107,13 +113,14 @@ tried rows s done = unless rows (λ a. s) done
 
 -- THE READERS: the writer "stores the frontier after each match, departure and accepted ACKNACK"
 
--- 11: "reader id 0, unknown"
-abbrev pub unknown : ℕ → State → Bool
-unknown i s = eqb i 0 || not (isThere i (s .heads))
+-- what refuses each step are the rows of its calls. No record of the system is ever incoherent (`Coherent`), so that test is `true` here; that the calls'
+-- own tests and answers come to the same is `AsCalled`
 
--- 13, 11 and 8
 abbrev pub matchRows : ℕ → ℕ → State → Rows
-matchRows i m s = rowsOf (row 13 (not (leb 1 m && leb m 1024)) ∷ row 11 (eqb i 0 || isThere i (s .heads)) ∷ row 8 (not (isThere 0 (s .heads))) ∷ [])
+matchRows i m s = matchRowsOf true m i (s .heads)
+
+abbrev pub departRows : ℕ → State → Rows
+departRows i s = departRowsOf true i (s .heads)
 
 abbrev pub newcomer : ℕ → Bool → ℕ → State → Line
 newcomer i r m s = record { id = i; reliable = r; since = s .flow .last; anew = not (has (s .used) i); server = fresh m; model = unread }
@@ -140,9 +147,9 @@ left i s =
       net = s .net;
     }
 
--- 3, 11 and 12
+-- a base of natural numbers isn't negative, and `last` is never out of its range
 abbrev pub ackRows : ℕ → NumberSet → State → Rows
-ackRows i z s = rowsOf (row 3 (ltb 256 (z .count)) ∷ row 11 (unknown i s) ∷ row 12 (isAhead (s .flow .last) (z .base)) ∷ [])
+ackRows i z s = ackRowsOf true z false (unknown i (s .heads)) (s .flow .last)
 
 abbrev pub ackedHeads : ℕ → NumberSet → State → List Head
 ackedHeads i z s = acknowledged i (ackedAfter (headAt i (s .heads) .acked) (z .base)) (s .heads)
@@ -165,6 +172,15 @@ called i c (some l) s = tried (callRows (s .flow .last) c (l .server)) s (withLi
 
 -- THE NUMBERS
 
+abbrev pub writeRows : ℕ → Bool → State → Rows
+writeRows len opted s = admitRows true len (s .flow) opted
+
+abbrev pub sentRows : SequenceNumber → State → Rows
+sentRows n s = ranged true (unwritten (rankOf n) (s .flow))
+
+abbrev pub evictRows : SequenceNumber → State → Rows
+evictRows n s = ranged true (ahead (rankOf n) (s .flow))
+
 -- "It notifies every reader of each admitted number"
 abbrev pub wrote : Bool → State → State
 wrote opted s =
@@ -177,7 +193,6 @@ wrote opted s =
       net = s .net;
     }
 
--- "k above is refused with 2"
 abbrev pub evicts : ℕ → State → State
 evicts n s =
     record {
@@ -223,10 +238,10 @@ replyFrom i (some l) s = post i (ack (ackNack (l .model))) s
 
 abbrev pub step : Event → State → State
 step (match i r m) s = tried (matchRows i m s) s (joined i r m s)
-step (depart i) s = tried (rowsOf (row 11 (unknown i s) ∷ [])) s (left i s)
-step (write len opted) s = tried (admitRows true len (s .flow) opted) s (wrote opted s)
-step (sentTo n) s = tried (rowsOf (row 2 (ltb (s .flow .last) n) ∷ [])) s (withFlow (raised n (s .flow)) s)
-step (evictTo n) s = tried (rowsOf (row 2 (ahead n (s .flow)) ∷ [])) s (evicts n s)
+step (depart i) s = tried (departRows i s) s (left i s)
+step (write len opted) s = tried (writeRows len opted s) s (wrote opted s)
+step (sentTo n) s = tried (sentRows n s) s (withFlow (raised (rankOf n) (s .flow)) s)
+step (evictTo n) s = tried (evictRows n s) s (evicts (rankOf n) s)
 step (call i c) s = called i c (find i (s .lines)) s
 step (heartbeat i) s = beatTo i (find i (s .lines)) s
 step (send i) s = sendTo i (find i (s .lines)) s

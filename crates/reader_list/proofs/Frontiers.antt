@@ -7,8 +7,8 @@ use native.Mathlib.Omega.{arith}
 use lib.Dec.{eqb}
 use lib.ListN.{set}
 use borrow.Author.Tests.{eqb-true, ne-eqb}
+use Rattle.sets.proofs.Bools.{and-left, and-right}
 use Rattle.reader_list.specs.Readers.{Head, free, meet, frontier, placeOf, isThere, matched, departed, slotFits, slotsFit, different}
-use Rattle.reader_list.proofs.Ids.{and-left, and-right}
 use Rattle.reader_list.proofs.Gather.{meet-assoc}
 
 meet-comm : (a b : ℕ) → meet a b ≡ meet b a

@@ -10,6 +10,7 @@ use lib.Dec.{ltb, leb, eqb}
 use lib.ListN.{length, take, getD, set, length-set, length-replicate}
 use lib.Seq.{take-suc-set}
 use borrow.Author.Tests.{lt-ltb, le-ltb, ltb-true, ltb-false, leb-true, leb-false}
+use Rattle.sets.proofs.Bools.{and-assoc, and-yes, and-left, and-right}
 use Rattle.numbers.specs.Number.{rankOf}
 use Rattle.reader_list.specs.declared.heads.ReaderHead.{ReaderHead}
 use Rattle.reader_list.specs.declared.walk.Ask.{Ask}
@@ -17,7 +18,7 @@ use Rattle.reader_list.specs.declared.walk.Seen.{Seen}
 use Rattle.reader_list.specs.Readers.{Head, meet, frontier, placeOf, isThere, slotFits, slotsFit, different}
 use Rattle.reader_list.specs.Slots.{headOf, readers, isCoherent, freeSlot}
 use Rattle.reader_list.specs.Walk.{isIn, distinct, begun, counted, seenStep, isWhole, isFound, hasFree}
-use Rattle.reader_list.proofs.Ids.{and-assoc, and-true, and-false, and-left, and-right}
+use Rattle.reader_list.proofs.Ids.{and-false}
 
 -- ---- the ids
 abbrev pub idsOf : List ReaderHead → List ℕ
@@ -173,7 +174,7 @@ gathered : (hs : List ReaderHead) (s : Seen) → length (s .ids) ≡ 64 → s .c
 gathered [] s long few =
     record {
       count = sym (add-zero (s .count));
-      clean = sym (and-true (s .clean));
+      clean = sym (and-yes (s .clean));
       ids = ap (λ (n : ℕ). take n (s .ids)) (add-zero (s .count)) ∙ sym (append-nil (take (s .count) (s .ids)));
       found = λ l. (refl, refl);
       sought = λ e. (e ∙ sym (add-zero (s .count)), refl);

@@ -8,53 +8,25 @@ use native.Mathlib.Omega.{arith}
 use lib.Dec.{eqb}
 use lib.ListN.{length, take, drop, getD, drop-of-length-le, length-drop}
 use lib.Seq.{drop-cons, take-all}
+use Rattle.sets.proofs.Loops.{here, done}
+use Rattle.sets.proofs.Bools.{or-assoc, or-no, and-assoc, and-yes}
 use Rattle.reader_list.specs.Readers.{meet}
 use Rattle.reader_list.specs.Walk.{isIn, distinct}
-
-pub here : (s : List ℕ) (i : ℕ) → i < length s → drop i s ≡ getD s i 0 ∷ drop (i + 1) s
-here s i h = rw (add-one, drop-cons s i 0)
-
-pub done : (s : List ℕ) (i : ℕ) → length s ≤ i → drop i s ≡ []
-done s i h = drop-of-length-le s h
 
 -- the part of a slice from i on
 pub to-end : (s : List ℕ) (i : ℕ) → i ≤ length s → take (length s - i) (drop i s) ≡ drop i s
 to-end s i h = take-all (length s - i) (drop i s) (rw length-drop (omega arith))
 
-pub or-assoc : (a b c : Bool) → ((a || b) || c) ≡ (a || (b || c))
-or-assoc true b c = refl
-or-assoc false b c = refl
-
-pub or-false : (a : Bool) → (a || false) ≡ a
-or-false true = refl
-or-false false = refl
-
-pub and-assoc : (a b c : Bool) → ((a && b) && c) ≡ (a && (b && c))
-and-assoc true b c = refl
-and-assoc false b c = refl
-
-pub and-true : (a : Bool) → (a && true) ≡ a
-and-true true = refl
-and-true false = refl
-
 pub and-false : (a : Bool) → false ≡ (a && false)
 and-false true = refl
 and-false false = refl
-
-pub and-left : (a b : Bool) → (a && b) ≡ true → a ≡ true
-and-left true b h = refl
-and-left false b h = h
-
-pub and-right : (a b : Bool) → (a && b) ≡ true → b ≡ true
-and-right true b h = h
-and-right false b h = let o : _≡_ {A = ℕ} 0 1 = cc in absurd (omega arith)
 
 -- one id more
 pub in-more : (x : ℕ) (s : List ℕ) (i : ℕ) (found whole : Bool) → i < length s → (found || isIn x (drop i s)) ≡ whole → ((found || eqb (getD s i 0) x) || isIn x (drop (i + 1) s)) ≡ whole
 in-more x s i found whole h e = or-assoc found (eqb (getD s i 0) x) (isIn x (drop (i + 1) s)) ∙ rw (here s i h) at e
 
 pub in-all : (x : ℕ) (s : List ℕ) (i : ℕ) (found whole : Bool) → length s ≤ i → (found || isIn x (drop i s)) ≡ whole → found ≡ whole
-in-all x s i found whole h e = sym (or-false found) ∙ rw (done s i h) at e
+in-all x s i found whole h e = sym (or-no found) ∙ rw (done s i h) at e
 
 pub distinct-more : (s : List ℕ) (i : ℕ) (fine whole : Bool) → i < length s → (fine && distinct (drop i s)) ≡ whole
     → ((fine && (eqb (getD s i 0) 0 || not (isIn (getD s i 0) (take (length s - (i + 1)) (drop (i + 1) s))))) && distinct (drop (i + 1) s)) ≡ whole
@@ -63,7 +35,7 @@ distinct-more s i fine whole h e =
     rw (to-end s (i + 1) q) (and-assoc fine (eqb (getD s i 0) 0 || not (isIn (getD s i 0) (drop (i + 1) s))) (distinct (drop (i + 1) s)) ∙ rw (here s i h) at e)
 
 pub distinct-all : (s : List ℕ) (i : ℕ) (fine whole : Bool) → length s ≤ i → (fine && distinct (drop i s)) ≡ whole → fine ≡ whole
-distinct-all s i fine whole h e = sym (and-true fine) ∙ rw (done s i h) at e
+distinct-all s i fine whole h e = sym (and-yes fine) ∙ rw (done s i h) at e
 
 -- ---- the frontier of two
 pub meet-is : (a b : ℕ) → (a ≡ 0 → ⊥) → 1 ≤ b → meet a b ≡ min a b

@@ -8,6 +8,7 @@ use native.Mathlib.Omega.{arith}
 use lib.Dec.{leb, eqb}
 use lib.ListN.{length, getD, set, length-set}
 use borrow.Author.Tests.{eq-eqb, ne-eqb, eqb-true, eqb-false}
+use Rattle.sets.proofs.Bools.{and-left, and-right, neither}
 use Rattle.numbers.specs.Number.{rankOf, negative, numberAt}
 use Rattle.numbers.specs.Refusals.{answerOf, isDone, unless, done}
 use Rattle.numbers.specs.Promise.{Left1}
@@ -19,15 +20,6 @@ use Rattle.reader_list.specs.declared.calls.Match.{Match}
 use Rattle.reader_list.specs.declared.calls.Acked.{Acked}
 use Rattle.reader_list.specs.Readers.{Head, free, placeOf, isThere, headAt, matched, departed, acknowledged, slotFits, slotsFit, different, fits}
 use Rattle.reader_list.specs.Slots.{headOf, readers, isCoherent, freeSlot, listed, unknown, taken, matchRows, matchOf, departOf, ackOf}
-use Rattle.reader_list.proofs.Ids.{and-left, and-right}
-
-or-left : (a b : Bool) → (a || b) ≡ false → a ≡ false
-or-left true b e = e
-or-left false b e = refl
-
-or-right : (a b : Bool) → (a || b) ≡ false → b ≡ false
-or-right true b e = let o : _≡_ {A = ℕ} 0 1 = cc in absurd (omega arith)
-or-right false b e = e
 
 -- one slot stored: the first that has the id j takes the head x
 abbrev put : ℕ → Head → List Head → List Head
@@ -40,15 +32,15 @@ Fresh i j hs = (i ≡ 0) ⊎ ((i ≡ j) ⊎ (isThere i hs ≡ false))
 fresh-on : (i j : ℕ) (h : Head) (hs : List Head) → Fresh i j (h ∷ hs) → Fresh i j hs
 fresh-on i j h hs (inl e) = inl e
 fresh-on i j h hs (inr (inl e)) = inr (inl e)
-fresh-on i j h hs (inr (inr e)) = inr (inr (or-right (eqb (h .id) i) (isThere i hs) e))
+fresh-on i j h hs (inr (inr e)) = inr (inr (neither (eqb (h .id) i) (isThere i hs) e .1))
 
 put-there : (k j : ℕ) (x : Head) (hs : List Head) → isThere k hs ≡ false → eqb (x .id) k ≡ false → isThere k (put j x hs) ≡ false
 put-there k j x [] e n = refl
-put-there k j x (h ∷ hs) e n = go (eqb (h .id) j) (put-there k j x hs (or-right (eqb (h .id) k) (isThere k hs) e) n)
+put-there k j x (h ∷ hs) e n = go (eqb (h .id) j) (put-there k j x hs (neither (eqb (h .id) k) (isThere k hs) e .1) n)
   where
     go : (t : Bool) → isThere k (put j x hs) ≡ false → isThere k (set (h ∷ hs) (cond t 0 (suc (placeOf j hs))) x) ≡ false
-    go true r = rw (n, or-right (eqb (h .id) k) (isThere k hs) e)
-    go false r = rw (or-left (eqb (h .id) k) (isThere k hs) e, r)
+    go true r = rw (n, neither (eqb (h .id) k) (isThere k hs) e .1)
+    go false r = rw (neither (eqb (h .id) k) (isThere k hs) e .0, r)
 
 put-different : (j : ℕ) (x : Head) (hs : List Head) → Fresh (x .id) j hs → different hs ≡ true → different (put j x hs) ≡ true
 put-different j x [] f d = refl
@@ -64,7 +56,7 @@ put-different j x (h ∷ hs) f d = go (eqb (h .id) j) refl (put-different j x hs
     here : h .id ≡ j → Fresh (x .id) j (h ∷ hs) → (eqb (x .id) 0 || not (isThere (x .id) hs)) ≡ true
     here q (inl e) = ap (λ (b : Bool). b || not (isThere (x .id) hs)) (eq-eqb (x .id) 0 e)
     here q (inr (inl e)) = subst (λ (i : ℕ). (eqb i 0 || not (isThere i hs)) ≡ true) (q ∙ sym e) first
-    here q (inr (inr e)) = ap (λ (b : Bool). eqb (x .id) 0 || not b) (or-right (eqb (h .id) (x .id)) (isThere (x .id) hs) e) ∙ or-true (eqb (x .id) 0)
+    here q (inr (inr e)) = ap (λ (b : Bool). eqb (x .id) 0 || not b) (neither (eqb (h .id) (x .id)) (isThere (x .id) hs) e .1) ∙ or-true (eqb (x .id) 0)
       where
         or-true : (b : Bool) → (b || true) ≡ true
         or-true true = refl
@@ -74,7 +66,7 @@ put-different j x (h ∷ hs) f d = go (eqb (h .id) j) refl (put-different j x hs
     other : (h .id ≡ 0 → ⊥) → (h .id ≡ j → ⊥) → Fresh (x .id) j (h ∷ hs) → eqb (x .id) (h .id) ≡ false
     other z n (inl e) = ne-eqb (x .id) (h .id) (λ q. z (sym q ∙ e))
     other z n (inr (inl e)) = ne-eqb (x .id) (h .id) (λ q. n (sym q ∙ e))
-    other z n (inr (inr e)) = ne-eqb (x .id) (h .id) (λ q. eqb-false (h .id) (x .id) (or-left (eqb (h .id) (x .id)) (isThere (x .id) hs) e) (sym q))
+    other z n (inr (inr e)) = ne-eqb (x .id) (h .id) (λ q. eqb-false (h .id) (x .id) (neither (eqb (h .id) (x .id)) (isThere (x .id) hs) e .0) (sym q))
 
     on : (b : Bool) → eqb (h .id) 0 ≡ b → (h .id ≡ j → ⊥) → (b || not (isThere (h .id) hs)) ≡ true → (b || not (isThere (h .id) (put j x hs))) ≡ true
     on true z n p = refl
@@ -113,8 +105,8 @@ fits-put j x hs f e c =
 module _ (hs : List Head) (c : fits hs ≡ true) where
   pub fits-matched : (i : ℕ) (r : Bool) → taken i hs ≡ false → fits (matched i r hs) ≡ true
   fits-matched i r e =
-      fits-put 0 (record { id = i; reliable = r; acked = 0 }) hs (inr (inr (or-right (eqb i 0) (isThere i hs) e)))
-      (ap (λ (b : Bool). not b || (not r && eqb 0 0)) (or-left (eqb i 0) (isThere i hs) e)) c
+      fits-put 0 (record { id = i; reliable = r; acked = 0 }) hs (inr (inr (neither (eqb i 0) (isThere i hs) e .1)))
+      (ap (λ (b : Bool). not b || (not r && eqb 0 0)) (neither (eqb i 0) (isThere i hs) e .0)) c
 
   pub fits-departed : (i : ℕ) → fits (departed i hs) ≡ true
   fits-departed i = fits-put i free hs (inl refl) refl c
@@ -122,7 +114,7 @@ module _ (hs : List Head) (c : fits hs ≡ true) where
   pub fits-acknowledged : (i a : ℕ) → unknown i hs ≡ false → fits (acknowledged i a hs) ≡ true
   fits-acknowledged i a e =
       fits-put i (record { id = i; reliable = headAt i hs .reliable; acked = a }) hs (inr (inl refl))
-      (ap (λ (b : Bool). not b || (not (headAt i hs .reliable) && eqb a 0)) (or-left (eqb i 0) (not (isThere i hs)) e)) c
+      (ap (λ (b : Bool). not b || (not (headAt i hs .reliable) && eqb a 0)) (neither (eqb i 0) (not (isThere i hs)) e .0)) c
 
 -- ---- THE CALLS are these steps
 pub readers-set : (hs : List ReaderHead) (k : ℕ) (h : ReaderHead) → readers (set hs k h) ≡ set (readers hs) k (headOf h)

@@ -25,6 +25,14 @@ abbrev pub readers : List ReaderHead → List Head
 readers [] = []
 readers (h ∷ hs) = headOf h ∷ readers hs
 
+-- and back
+abbrev pub headForm : Head → ReaderHead
+headForm h = record { id = h .id; reliable = h .reliable; acked = numberAt (h .acked) }
+
+abbrev pub listForm : List Head → List ReaderHead
+listForm [] = []
+listForm (h ∷ hs) = headForm h ∷ listForm hs
+
 abbrev pub isCoherent : List ReaderHead → Bool
 isCoherent hs = fits (readers hs)
 
@@ -54,6 +62,13 @@ taken i hs = eqb i 0 || isThere i hs
 abbrev pub capAllowed : ℕ → Bool
 capAllowed m = leb 1 m && leb m 1024
 
+-- what refuses a match, and a departure: by the list on natural numbers, and whether it is coherent
+abbrev pub matchRowsOf : Bool → ℕ → ℕ → List Head → Rows
+matchRowsOf coherent m i hs = listed (not (capAllowed m)) coherent false (taken i hs) (not (isThere 0 hs))
+
+abbrev pub departRowsOf : Bool → ℕ → List Head → Rows
+departRowsOf coherent i hs = listed false coherent false (unknown i hs) false
+
 -- QUESTIONS
 
 abbrev pub frontOf : List ReaderHead → Front
@@ -71,7 +86,7 @@ foundOf hs i =
 -- CHANGES: each of one slot
 
 abbrev pub matchRows : List ReaderHead → Match → Rows
-matchRows hs m = listed (not (capAllowed (m .cap))) (isCoherent hs) false (taken (m .id) (readers hs)) (not (isThere 0 (readers hs)))
+matchRows hs m = matchRowsOf (isCoherent hs) (m .cap) (m .id) (readers hs)
 
 -- "A match adds a reader with acked 0"
 abbrev pub matchOf : List ReaderHead → Match → Left1 Answer (List ReaderHead)
@@ -82,7 +97,7 @@ matchOf hs m =
 
 abbrev pub departOf : List ReaderHead → ℕ → Left1 Answer (List ReaderHead)
 departOf hs i =
-    unless (listed false (isCoherent hs) false (unknown i (readers hs)) false)
+    unless (departRowsOf (isCoherent hs) i (readers hs))
     (λ no. record { result = no; first = hs })
     (record { result = done; first = set hs (placeOf i (readers hs)) freeSlot })
 

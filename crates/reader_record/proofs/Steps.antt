@@ -8,7 +8,7 @@ use lib.Dec.{leb, ltb, eqb}
 use lib.ListN.{length, take}
 use borrow.Author.Tests.{eq-eqb, eqb-true, leb-true, ltb-false, not-false}
 use Rattle.sets.specs.Sets.{From, has, empty}
-use Rattle.sets.proofs.Bools.{and-left, and-right}
+use Rattle.sets.proofs.Bools.{and-left, and-right, neither}
 use Rattle.numbers.specs.Number.{topNumber, rankOf, isSample, inRange, negative, numberAt}
 use Rattle.numbers.specs.Refusals.{Row, row, rowsOf, answerOf, done, isDone, unless}
 use Rattle.numbers.specs.Promise.{Left1, Left2, Gives1, Gives2}
@@ -65,10 +65,6 @@ stands-view q r s = ap view (s .is) ∙ view-form r (s .valid)
 
 pub stands-coherent : (q : Picture) (r : Reader) → Stands q r → isCoherent q ≡ true
 stands-coherent q r s = ap isCoherent (s .is) ∙ form-coherent r (s .valid)
-
-neither : (x y : Bool) → (x || y) ≡ false → (x ≡ false) × (y ≡ false)
-neither true y q = absurd (true≢false q)
-neither false y q = (refl, q)
 
 sample-is : (n : SequenceNumber) → isSample n ≡ true → (1 ≤ rankOf n) × (rankOf n ≤ topNumber)
 sample-is n s = (leb-true 1 (rankOf n) (and-left (leb 1 (rankOf n)) (leb (rankOf n) topNumber) s), leb-true (rankOf n) topNumber (and-right (leb 1 (rankOf n)) (leb (rankOf n) topNumber) s))

@@ -8,6 +8,7 @@ use lib.ListN.{length, take, drop, getD, replicate, length-append, length-take, 
 use lib.Seq.{take-add, drop-drop, take-take, length-take-le, take-at, drop-at, take-append-le, drop-append-add}
 use native.Mathlib.Omega.{arith}
 use borrow.Author.Tests.{eqb-true, eqb-false, eq-eqb, ne-eqb}
+use Rattle.sets.proofs.Bools.{and-assoc, and-yes}
 use Rattle.sets.specs.Sets.{has, empty}
 use Rattle.requested_fragments.specs.Words.{fragmentsOf, asking, notAsking}
 use Rattle.rising.specs.Runs.{over}
@@ -129,17 +130,9 @@ hold-more ws count i good h g =
     ∙ ap (λ (x : List ℕ). good && (not (empty (fragmentsOf (take 64 (drop (64 * i) ws)))) && allHold (count - (i + 1)) x)) d
     ∙ ap (λ (x : List ℕ). good && (not (empty (fragmentsOf x)) && allHold (count - (i + 1)) (drop (64 * (i + 1)) ws))) (sym (ap (λ (k : ℕ). take k (drop (i * 64) ws)) s ∙ ap (λ (k : ℕ). take 64 (drop k ws)) t))
     ∙ sym (and-assoc good (not (empty (fragmentsOf (take (i * 64 + 64 - i * 64) (drop (i * 64) ws))))) (allHold (count - (i + 1)) (drop (64 * (i + 1)) ws)))
-  where
-    and-assoc : (a b c : Bool) → ((a && b) && c) ≡ (a && (b && c))
-    and-assoc true b c = refl
-    and-assoc false b c = refl
 
 pub hold-end : (ws : List ℕ) (count i : ℕ) (good : Bool) → count ≤ i → allHold count ws ≡ (good && allHold (count - i) (drop (64 * i) ws)) → good ≡ allHold count ws
 hold-end ws count i good h g = let e : count - i ≡ 0 = omega arith in sym (g ∙ ap (λ (k : ℕ). good && allHold k (drop (64 * i) ws)) e ∙ and-yes good)
-  where
-    and-yes : (a : Bool) → (a && true) ≡ a
-    and-yes true = refl
-    and-yes false = refl
 
 pub hold-start : (ws : List ℕ) (count : ℕ) → allHold count ws ≡ (true && allHold (count - 0) (drop (64 * 0) ws))
 hold-start ws count = let e : count ≡ count - 0 = omega arith in let z : 0 ≡ 64 * 0 = omega arith in ap (λ (k : ℕ). allHold k ws) e ∙ ap (λ (k : ℕ). allHold (count - 0) (drop k ws)) z

@@ -9,35 +9,8 @@ use lib.Pow.{pow-pos, pow-add, pow-lt, shl-shr, shl-exact}
 use native.Mathlib.Omega.{arith}
 use native.Mathlib.Nat.{div-one, div-self, div-eq-of-lt, mul-one, mul-mod-left, pow-suc, mul-div-cancel}
 use borrow.Author.Tests.{eqb-true, eqb-false, eq-eqb, ne-eqb, ltb-true, ltb-false}
+use Rattle.number_sets.proofs.Join.{one-bit, two}
 use Rattle.requested_fragments.specs.Words.{bitOf}
-
--- a digit, as a test and as a number
-two : (n : ℕ) → (n % 2 ≡ 0) ⊎ (n % 2 ≡ 1)
-two n = go (n % 2) (omega arith)
-  where
-    go : (r : ℕ) → r < 2 → (r ≡ 0) ⊎ (r ≡ 1)
-    go zero h = inl refl
-    go (suc zero) h = inr refl
-    go (suc (suc r)) h = absurd (omega arith)
-
--- bit j of 2 ^ k
-pub one-bit : (k j : ℕ) → 2 ^ k / 2 ^ j % 2 ≡ cond (eqb j k) 1 0
-one-bit k j = go (eqb j k) refl (ltb j k) refl
-  where
-    go : (t : Bool) → eqb j k ≡ t → (u : Bool) → ltb j k ≡ u → 2 ^ k / 2 ^ j % 2 ≡ cond t 1 0
-    go true e u f =
-        ap (λ (x : ℕ). 2 ^ x / 2 ^ j % 2) (sym (eqb-true j k e)) ∙ ap (λ (x : ℕ). x % 2) (div-self (pow-pos j))
-    go false e true f =
-        let h : j < k = ltb-true j k f in
-        let w : k ≡ suc (k - suc j) + j = omega arith in
-        ap (λ (x : ℕ). 2 ^ x / 2 ^ j % 2) w
-        ∙ ap (λ (x : ℕ). x / 2 ^ j % 2) (pow-add 2 (suc (k - suc j)) j)
-        ∙ ap (λ (x : ℕ). x % 2) (shl-shr (2 ^ suc (k - suc j)) j)
-        ∙ ap (λ (x : ℕ). x % 2) (pow-suc 2 (k - suc j))
-        ∙ mul-mod-left (2 ^ (k - suc j)) 2
-    go false e false f =
-        let h : k < j = omega (arith, ltb-false j k f, eqb-false j k e) in
-        ap (λ (x : ℕ). x % 2) (div-eq-of-lt (pow-lt h))
 
 pub or-bit : (w k j : ℕ) → bitOf (bitOr w (2 ^ k)) j ≡ (bitOf w j || eqb j k)
 or-bit w k j =

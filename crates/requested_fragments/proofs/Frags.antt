@@ -13,6 +13,7 @@ use lib.Pow.{pow-pos, pow-mono, shr-shr}
 use native.Mathlib.Omega.{arith}
 use native.Mathlib.Nat.{div-one, zero-div, zero-mod, div-add-mod, div-div-eq-div-mul, pow-suc, pow-succ', div-lt-iff-lt-mul, zero-lt-suc, div-eq-of-lt, lt-of-lt-of-le}
 use borrow.Author.Tests.{eqb-true, eqb-false, eq-eqb, ne-eqb, ltb-true, ltb-false, le-leb, lt-leb, leb-true, leb-false}
+use Rattle.number_sets.proofs.Eight.{eqb-same}
 use Rattle.sets.specs.Sets.{has, From, insert, only, without, those, empty, firstOr}
 use Rattle.sets.proofs.Has.{has-insert, has-only, From-insert, From-only, From-low}
 use Rattle.sets.proofs.Bools.{decide, clash}
@@ -57,14 +58,6 @@ same-bits ws vs h = ext 1 1 (fragmentsOf ws) (fragmentsOf vs) (frag-rises ws) (f
     go : (n : ℕ) → has (fragmentsOf ws) n ≡ has (fragmentsOf vs) n
     go zero = frag-zero ws ∙ sym (frag-zero vs)
     go (suc p) = frag-at ws p ∙ h p ∙ sym (frag-at vs p)
-
--- ---- one word changed
-eqb-same : (a b c d : ℕ) → (a ≡ b → c ≡ d) → (c ≡ d → a ≡ b) → eqb a b ≡ eqb c d
-eqb-same a b c d f g = go (eqb a b) refl
-  where
-    go : (t : Bool) → eqb a b ≡ t → t ≡ eqb c d
-    go true e = sym (eq-eqb c d (f (eqb-true a b e)))
-    go false e = sym (ne-eqb c d (λ (z : c ≡ d). eqb-false a b e (g z)))
 
 eqb-suc : (q p : ℕ) → eqb (suc q) (suc p) ≡ eqb q p
 eqb-suc q p = eqb-same (suc q) (suc p) q p (λ z. omega arith) (λ z. omega arith)

@@ -14,7 +14,6 @@ pub mod Coherent
 pub mod Form
 pub mod Drained
 pub mod Whole
-pub mod Plays
 pub mod AskForm
 pub mod OneForm
 pub mod Unique

@@ -7,7 +7,7 @@ use lib.ListN.{length, take, drop, getD, replicate, length-append, length-take, 
 use lib.Seq.{take-add, drop-drop, take-take, length-take-le, take-at, drop-at}
 use native.Mathlib.Omega.{arith}
 use borrow.Author.Tests.{eq-eqb, ne-eqb}
-use Rattle.rising.proofs.Lists.{here, done}
+use Rattle.sets.proofs.Loops.{here, done}
 use Rattle.sets.specs.Sets.{has, empty}
 use Rattle.requested_fragments.specs.Words.{fragmentsOf, asking, notAsking}
 use Rattle.requested_fragments.proofs.Frags.{notAsking-length}

@@ -4,4 +4,3 @@ pub mod Words
 pub mod Find
 pub mod Table
 pub mod Drain
-pub mod Play

@@ -27,7 +27,8 @@ use Rattle.rising.specs.declared.set.Contained.{Contained}
 use Rattle.rising.specs.declared.set.Joined.{Joined}
 use Rattle.rising.specs.declared.set.RisingSet.{RisingSet}
 use Rattle.rising.specs.declared.set.Changed.{Changed}
-use Rattle.rising.proofs.Lists.{done as past, filled-length}
+use Rattle.sets.proofs.Loops.{done as past}
+use Rattle.rising.proofs.Lists.{filled-length}
 use Rattle.rising.proofs.Merging.{merged-union}
 use Rattle.rising.proofs.Meaning.{RunIs, run-is, in-room, from-only, before-only, removed-without, between-is, room-take, room-length, rising-only, room-ok}
 

@@ -12,7 +12,8 @@ use borrow.Author.Tests.{le-leb, lt-leb, le-ltb, lt-ltb, eq-eqb, ne-eqb, leb-tru
 use Rattle.numbers.specs.Promise.{Gives1}
 use Rattle.sets.specs.Sets.{insert, largest}
 use Rattle.rising.specs.Runs.{placeOf, holdsAt, cutOut, putIn, removed, fromOn, before, insertWithin, newest, over, inRoom}
-use Rattle.rising.proofs.Lists.{done, dropped}
+use Rattle.sets.proofs.Loops.{done}
+use Rattle.rising.proofs.Lists.{dropped}
 use Rattle.rising.proofs.Rooms.{past-room, changed, unchanged, as-well, back}
 
 pub place-le : (n : ℕ) (l : List ℕ) → placeOf n l ≤ length l

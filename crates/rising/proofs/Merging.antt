@@ -13,7 +13,8 @@ use Rattle.sets.specs.Sets.{From, union}
 use Rattle.sets.proofs.Ext.{union-left, union-right, union-both, union-nil}
 use Rattle.rising.specs.Runs.{merged, ahead, filled}
 use Rattle.rising.specs.Turn.{Turned}
-use Rattle.rising.proofs.Lists.{here, done, upto, upto-more, upto-all, filled-length, filled-at, filled-end}
+use Rattle.sets.proofs.Loops.{here, done, upto, upto-more, upto-all}
+use Rattle.rising.proofs.Lists.{filled-length, filled-at, filled-end}
 
 no : {A : Type 0} → false ≡ true → A
 no e = absurd (false≢true e)

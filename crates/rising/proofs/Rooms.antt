@@ -10,7 +10,8 @@ use lib.Seq.{take-nil, take-take, take-all, drop-drop, length-take-le, set-at, t
 use borrow.Author.Tests.{le-leb, lt-leb, leb-true, leb-false}
 use Rattle.numbers.specs.Promise.{Gives1}
 use Rattle.rising.specs.Runs.{over, inRoom, cutOut, putIn, opened, openedWithin}
-use Rattle.rising.proofs.Lists.{done, dropped, lifted}
+use Rattle.sets.proofs.Loops.{done}
+use Rattle.rising.proofs.Lists.{dropped, lifted}
 
 pub drop-take : (i c : ℕ) (a : List ℕ) → drop i (take c a) ≡ take (c - i) (drop i a)
 drop-take zero c a = let e : c ≡ c - 0 = omega arith in ap (λ (x : ℕ). take x a) e

@@ -11,10 +11,10 @@ use lib.ListN.{length, take, drop, getD, length-drop}
 use lib.Seq.{take-all}
 use borrow.Author.Tests.{eqb-true, eqb-false, eq-eqb, ne-eqb, le-leb, lt-leb, leb-true, leb-false}
 use Rattle.sets.specs.Sets.{has, firstOr}
-use Rattle.sets.proofs.Bools.{decide, or-assoc}
+use Rattle.sets.proofs.Bools.{decide, or-assoc, and-assoc, and-yes}
 use Rattle.numbers.specs.Number.{topNumber}
 use Rattle.rising.specs.Runs.{risesAbove, zeros, runOk, holdsAt}
-use Rattle.rising.proofs.Lists.{here, done}
+use Rattle.sets.proofs.Loops.{here, done}
 
 or-zero : (a b : ℕ) → eqb (bitOr a b) 0 ≡ (eqb a 0 && eqb b 0)
 or-zero a b = go (decide (eqb a 0)) (decide (eqb b 0))
@@ -24,21 +24,13 @@ or-zero a b = go (decide (eqb a 0)) (decide (eqb b 0))
     go (inl p) (inr q) = rw (p, q) (ne-eqb (bitOr a b) 0 (λ e. eqb-false b 0 q (omega (arith, e, or-add-and a b, and-le-l a b))))
     go (inr p) q = rw p (ne-eqb (bitOr a b) 0 (λ e. eqb-false a 0 p (omega (arith, e, or-add-and a b, and-le-r a b))))
 
-and-assoc : (a b c : Bool) → ((a && b) && c) ≡ (a && (b && c))
-and-assoc true b c = refl
-and-assoc false b c = refl
-
-and-true : (b : Bool) → (b && true) ≡ b
-and-true true = refl
-and-true false = refl
-
 pub zeros-more : (s : List ℕ) (i acc : ℕ) → i < length s → zeros s ≡ (eqb acc 0 && zeros (drop i s)) → zeros s ≡ (eqb (bitOr acc (getD s i 0)) 0 && zeros (drop (i + 1) s))
 zeros-more s i acc h e =
     e ∙ ap (λ (l : List ℕ). eqb acc 0 && zeros l) (here s i h) ∙ sym (and-assoc (eqb acc 0) (eqb (getD s i 0) 0) (zeros (drop (i + 1) s)))
     ∙ ap (λ (b : Bool). b && zeros (drop (i + 1) s)) (sym (or-zero acc (getD s i 0)))
 
 pub zeros-end : (s : List ℕ) (i acc : ℕ) → length s ≤ i → zeros s ≡ (eqb acc 0 && zeros (drop i s)) → eqb acc 0 ≡ zeros s
-zeros-end s i acc h e = sym (e ∙ ap (λ (l : List ℕ). eqb acc 0 && zeros l) (done s i h) ∙ and-true (eqb acc 0))
+zeros-end s i acc h e = sym (e ∙ ap (λ (l : List ℕ). eqb acc 0 && zeros l) (done s i h) ∙ and-yes (eqb acc 0))
 
 pub rises-more : (p : ℕ) (s : List ℕ) (i low : ℕ) (good : Bool) → i < length s → risesAbove p s ≡ (good && risesAbove low (drop i s))
     → risesAbove p s ≡ ((good && (ltb low (getD s i 0) && leb (getD s i 0) 9223372036854775806)) && risesAbove (getD s i 0) (drop (i + 1) s))
@@ -48,7 +40,7 @@ rises-more p s i low good h e =
     ∙ sym (and-assoc good (ltb low (getD s i 0) && leb (getD s i 0) topNumber) (risesAbove (getD s i 0) (drop (i + 1) s)))
 
 pub rises-end : (p : ℕ) (s : List ℕ) (i low : ℕ) (good : Bool) → length s ≤ i → risesAbove p s ≡ (good && risesAbove low (drop i s)) → good ≡ risesAbove p s
-rises-end p s i low good h e = sym (e ∙ ap (λ (l : List ℕ). good && risesAbove low l) (done s i h) ∙ and-true good)
+rises-end p s i low good h e = sym (e ∙ ap (λ (l : List ℕ). good && risesAbove low l) (done s i h) ∙ and-yes good)
 
 -- the check of a room
 pub run-short : (p count : ℕ) (s : List ℕ) → length s < count → false ≡ runOk p count s

@@ -11,7 +11,7 @@ use lib.ListN.{length, take}
 use lib.Seq.{length-take-le}
 use borrow.Author.Tests.{not-false, not-true, eqb-false, leb-true, leb-false, eq-eqb, ne-eqb}
 use Rattle.sets.specs.Sets.{has, From, empty, insert, only}
-use Rattle.sets.proofs.Bools.{and-left, and-right, decide}
+use Rattle.sets.proofs.Bools.{and-left, and-right, decide, neither}
 use Rattle.numbers.specs.Number.{topNumber, topFragment, rankOf, isSample, numberAt, fragmentAt}
 use Rattle.numbers.specs.Refusals.{Row, row, rowsOf, answerOf, done, unless}
 use Rattle.numbers.specs.Cursor.{cursorAt, cursorPast}
@@ -91,10 +91,6 @@ can-ask n set e =
 
     above-0 : (k : ℕ) → (k ≡ 0 → ⊥) → 1 ≤ k
     above-0 k f = omega arith
-
-    neither : (x y : Bool) → (x || y) ≡ false → (x ≡ false) × (y ≡ false)
-    neither true y q = absurd (true≢false q)
-    neither false y q = (refl, q)
 
 -- a request that finds a slot leaves at most 16
 module _ (c : ℕ) (S W : List ℕ) (k : coherentRooms c S W ≡ true) where

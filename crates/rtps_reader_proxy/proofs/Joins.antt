@@ -24,7 +24,7 @@ use Rattle.number_sets.specs.Calls.{sequenceSet, cutSet, joinedSet, sequenceRow
 use Rattle.number_sets.proofs.Meaning.{members-cut, members-joined, members-rise, member-bit, members-256, span-window}
 use Rattle.rising.specs.Runs.{roomOf, inRoom, placeOf, opened, openedWithin, filled}
 use Rattle.rising.proofs.Rooms.{drop-take}
-use Rattle.rising.proofs.Lists.{done as past}
+use Rattle.sets.proofs.Loops.{done as past}
 use Rattle.rising.proofs.Inserts.{place-le, place-mono}
 use Rattle.rising.proofs.Meaning.{RunIs, run-is, in-room, room-length, from-only, before-only}
 use Rattle.rtps_reader_proxy.specs.Acks.{Joinable, joining}

@@ -24,7 +24,7 @@ use Rattle.sets.proofs.Smallest.{largest-few}
 use Rattle.rising.specs.Runs.{runOk, roomOf, inRoom, newest, removed, fromOn, cutOut, filled}
 use Rattle.rising.proofs.Meaning.{RunIs, run-is, in-room, from-only, removed-without, only-all}
 use Rattle.rising.proofs.Changes.{only-le, first-is}
-use Rattle.rising.proofs.Lists.{done as past}
+use Rattle.sets.proofs.Loops.{done as past}
 use Rattle.rising.proofs.Scans.{take-min}
 use Rattle.rtps_reader_proxy.specs.declared.proxy.ReaderProxy.{ReaderProxy}
 use Rattle.rtps_reader_proxy.specs.declared.proxy.Changed.{Changed}

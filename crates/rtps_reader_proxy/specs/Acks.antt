@@ -13,7 +13,7 @@ use Rattle.numbers.specs.declared.answer.Answer.{Answer}
 use Rattle.numbers.specs.declared.answer.Rows.{Rows}
 use Rattle.numbers.specs.declared.sequence_number.SequenceNumber.{SequenceNumber}
 use Rattle.number_sets.specs.declared.sequence_number_set.SequenceNumberSet.{SequenceNumberSet}
-use Rattle.number_sets.specs.Bits.{members}
+use Rattle.number_sets.specs.Bits.{NumberSet, members}
 use Rattle.number_sets.specs.Calls.{sequenceSet}
 use Rattle.rising.specs.Runs.{runOk, roomOf}
 use Rattle.rtps_reader_proxy.specs.declared.proxy.ReaderProxy.{ReaderProxy}
@@ -21,15 +21,22 @@ use Rattle.rtps_reader_proxy.specs.declared.acks.AckNacked.{AckNacked}
 use Rattle.rtps_reader_proxy.specs.Reader.{Reader, isAhead, acknowledge, leftOut, staying, wanted, ackedAfter, baseOf}
 use Rattle.rtps_reader_proxy.specs.Record.{unsentOk, gapsOk, seen, unsentRoom, gapRoom}
 
--- "A negative base is refused with 2"; `last` is "0 to 2^63−2"; "b > last+1: answer 12"
+-- what refuses an acknowledgement with the set z: by whether all is coherent, whether a number is out of its range, and whether the reader is unknown,
+-- where it is named; "b > last+1: answer 12"
+abbrev pub ackRowsOf : Bool → NumberSet → Bool → Bool → ℕ → Rows
+ackRowsOf coherent z range reader last =
+    rowsOf
+    (row 1 (not coherent)
+    ∷ row 3 (ltb 256 (z .count))
+    ∷ row 2 range
+    ∷ row 11 reader
+    ∷ row 12 (isAhead last (z .base))
+    ∷ [])
+
+-- "A negative base is refused with 2"; `last` is "0 to 2^63−2". This call has the record itself, so no reader is unknown
 abbrev pub ackRows : ReaderProxy → List ℕ → List ℕ → SequenceNumberSet → SequenceNumber → Rows
 ackRows h unsent gaps set last =
-    rowsOf
-    (row 1 (not (unsentOk h unsent && gapsOk h gaps))
-    ∷ row 3 (ltb 256 (set .count))
-    ∷ row 2 (negative (set .base) || not (inRange last topNumber))
-    ∷ row 12 (isAhead (rankOf last) (rankOf (set .base)))
-    ∷ [])
+    ackRowsOf (unsentOk h unsent && gapsOk h gaps) (sequenceSet set) (negative (set .base) || not (inRange last topNumber)) false (rankOf last)
 
 -- the head of a reader whose fragments aren't touched
 abbrev pub headAfter : Reader → ReaderProxy → ReaderProxy

@@ -5,7 +5,7 @@ use mathlib.Core.List.{List, [], _∷_}
 use lib.Dec.{leb, ltb, eqb}
 use lib.ListN.{length}
 use Rattle.sets.specs.Sets.{only, empty}
-use Rattle.numbers.specs.Number.{topFragment, rankOf, isSample, numberAt, fragmentAt}
+use Rattle.numbers.specs.Number.{topFragment, rankOf, validRank, numberAt, fragmentAt}
 use Rattle.numbers.specs.Refusals.{Row, row, rowsOf, done, unless}
 use Rattle.numbers.specs.Cursor.{cursorAt, cursorPast}
 use Rattle.numbers.specs.Promise.{Left2}
@@ -14,7 +14,7 @@ use Rattle.numbers.specs.declared.cursor.Cursor.{Cursor}
 use Rattle.numbers.specs.declared.sequence_number.SequenceNumber.{SequenceNumber}
 use Rattle.numbers.specs.declared.fragment_number.FragmentNumber.{FragmentNumber}
 use Rattle.number_sets.specs.declared.fragment_number_set.FragmentNumberSet.{FragmentNumberSet}
-use Rattle.number_sets.specs.Bits.{members}
+use Rattle.number_sets.specs.Bits.{NumberSet, members}
 use Rattle.number_sets.specs.Calls.{fragmentSet}
 use Rattle.requested_fragments.specs.Entries.{Entry, nextSample, nextFragment, some}
 use Rattle.requested_fragments.specs.Table.{coherentRooms, entriesOf, samplesRoom, wordsRoom}
@@ -60,18 +60,26 @@ fragsBy rows f h samples words =
     })
 
 -- "A sample number outside 1 to 2^63−2, base 0, or any member above 4,096 refuses the whole request with 2"
-abbrev pub cannotAsk : SequenceNumber → FragmentNumberSet → Bool
-cannotAsk n set = not (isSample n) || (eqb (set .base .0) 0 || not (empty (only (ltb topFragment) (members (fragmentSet set)))))
+abbrev pub outOfRange : ℕ → NumberSet → Bool
+outOfRange n z = not (validRank n) || (eqb (z .base) 0 || not (empty (only (ltb topFragment) (members z))))
 
--- "samples with requested fragments, per reader: 16"
+abbrev pub cannotAsk : SequenceNumber → FragmentNumberSet → Bool
+cannotAsk n set = outOfRange (rankOf n) (fragmentSet set)
+
+-- "samples with requested fragments, per reader: 16"; so many are held
+abbrev pub slotsFull : ℕ → NumberSet → ℕ → Reader → Bool
+slotsFull n z held r = leb 16 held && needsSlot n (members z) r
+
 abbrev pub noSlot : ℕ → FragmentNumberSet → ReaderProxy → List ℕ → List ℕ → Bool
-noSlot n set h samples words = leb 16 (h .«frag_count») && needsSlot n (members (fragmentSet set)) (byFrags h samples words)
+noSlot n set h samples words = slotsFull n (fragmentSet set) (h .«frag_count») (byFrags h samples words)
+
+-- what refuses a request of the fragments z of sample n
+abbrev pub requestRows : ℕ → NumberSet → ℕ → Reader → List Row
+requestRows n z held r = row 3 (ltb 256 (z .count)) ∷ row 2 (outOfRange n z) ∷ row 10 (slotsFull n z held r) ∷ []
 
 abbrev pub fragsRequestedOf : SequenceNumber → FragmentNumberSet → ReaderProxy → List ℕ → List ℕ → Left2 Changed (List ℕ) (List ℕ)
 fragsRequestedOf n set h samples words =
-    fragsBy
-    (row 3 (ltb 256 (set .count)) ∷ row 2 (cannotAsk n set) ∷ row 10 (noSlot (rankOf n) set h samples words) ∷ [])
-    (fragsRequested (rankOf n) (members (fragmentSet set))) h samples words
+    fragsBy (requestRows (rankOf n) (fragmentSet set) (h .«frag_count») (byFrags h samples words)) (fragsRequested (rankOf n) (members (fragmentSet set))) h samples words
 
 -- "not requested, whatever its number: nothing changes, answer 0"
 abbrev pub fragSentOf : SequenceNumber → FragmentNumber → ReaderProxy → List ℕ → List ℕ → Left2 Changed (List ℕ) (List ℕ)

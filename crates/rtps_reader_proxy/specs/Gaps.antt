@@ -4,7 +4,7 @@ use mathlib.Core.Bool.{Bool, not, _&&_, _||_}
 use mathlib.Core.List.{List, [], _∷_}
 use lib.Dec.{leb, ltb}
 use lib.ListN.{length}
-use Rattle.numbers.specs.Number.{topNumber, rankOf, isSample, inRange, negative, numberAt}
+use Rattle.numbers.specs.Number.{topNumber, rankOf, validRank, inRange, negative, numberAt}
 use Rattle.numbers.specs.Refusals.{Row, row, rowsOf, done, unless}
 use Rattle.sets.specs.Sets.{empty, firstOr}
 use Rattle.numbers.specs.Cursor.{nextNumber}
@@ -44,20 +44,26 @@ gapsBy rows f h gaps =
       first = gapRoom (f (byGaps h gaps));
     })
 
--- "A prefix end or member above `last`, a negative end and a member below 1 get 2"; `last` itself is 0 to 2^63−2
+-- "A prefix end or member above `last`, a negative end and a member below 1 get 2"; `last` itself is 0 to 2^63−2, or `wrong`
+abbrev pub past : Bool → ℕ → ℕ → Bool
+past wrong last n = wrong || ltb last n
+
 abbrev pub beyond : SequenceNumber → SequenceNumber → Bool
-beyond n last = not (inRange last topNumber) || ltb (rankOf last) (rankOf n)
+beyond n last = past (not (inRange last topNumber)) (rankOf last) (rankOf n)
+
+-- what refuses a member n, where so many are held; and a prefix end e, where it is `negative`
+abbrev pub memberRows : Bool → ℕ → ℕ → ℕ → Reader → List Row
+memberRows wrong last n held r = row 2 (not (validRank n) || past wrong last n) ∷ row 9 (leb 256 held && needsRoom n r) ∷ []
+
+abbrev pub endRows : Bool → ℕ → Bool → ℕ → List Row
+endRows wrong last negative e = row 2 (negative || past wrong last e) ∷ []
 
 abbrev pub gapInsertedOf : SequenceNumber → SequenceNumber → ReaderProxy → List ℕ → Left1 Changed (List ℕ)
 gapInsertedOf n last h gaps =
-    gapsBy
-    (row 2 (not (isSample n) || beyond n last)
-    ∷ row 9 (leb 256 (h .«gap_count») && needsRoom (rankOf n) (byGaps h gaps))
-    ∷ [])
-    (gapInserted (rankOf n)) h gaps
+    gapsBy (memberRows (not (inRange last topNumber)) (rankOf last) (rankOf n) (h .«gap_count») (byGaps h gaps)) (gapInserted (rankOf n)) h gaps
 
 abbrev pub gapUpToOf : SequenceNumber → SequenceNumber → ReaderProxy → List ℕ → Left1 Changed (List ℕ)
-gapUpToOf e last = gapsBy (row 2 (negative e || beyond e last) ∷ []) (gapUpTo (rankOf e))
+gapUpToOf e last = gapsBy (endRows (not (inRange last topNumber)) (rankOf last) (negative e) (rankOf e)) (gapUpTo (rankOf e))
 
 -- the next number of the pending gap from the cursor on; 14 where there is none
 abbrev pub nextGapOf : Cursor → ReaderProxy → List ℕ → NextNumber

@@ -5,3 +5,4 @@ pub mod Those
 pub mod Ext
 pub mod First
 pub mod Append
+pub mod Loops

@@ -10,15 +10,11 @@ use lib.Dec.{ltb, leb, eqb}
 use lib.ListN.{length, drop, getD, drop-of-length-le}
 use lib.Seq.{drop-cons}
 use borrow.Author.Tests.{eq-eqb, ne-eqb, leb-true, ltb-true}
+use Rattle.sets.proofs.Loops.{here, done}
+use Rattle.sets.proofs.Bools.{and-left, and-right}
 use Rattle.trace_lines.specs.declared.Place.{Place}
 use Rattle.trace_lines.specs.declared.Number.{Number}
 use Rattle.trace_lines.specs.Words.{Rest, rest, bad, past, Read, nothing, isDigit, upTo63, digits, numberIn, numberOf, restOf, noNumber, numberTo, readOf}
-
-pub here : (s : List ℕ) (i : ℕ) → i < length s → drop i s ≡ getD s i 0 ∷ drop (i + 1) s
-here s i h = rw (add-one, drop-cons s i 0)
-
-pub done : (s : List ℕ) (i : ℕ) → length s ≤ i → drop i s ≡ []
-done s i h = drop-of-length-le s h
 
 -- ---- a key
 module _ (k s : List ℕ) (at j : ℕ) where
@@ -35,15 +31,6 @@ module _ (k s : List ℕ) (at j : ℕ) where
 
   pub past-all : length k ≤ j → past (drop j k) (drop (at + j) s) ≡ rest (drop (at + j) s)
   past-all h = rw (done k j h)
-
--- ---- a number
-and-left : (a b : Bool) → (a && b) ≡ true → a ≡ true
-and-left true b h = refl
-and-left false b h = h
-
-and-right : (a b : Bool) → (a && b) ≡ true → b ≡ true
-and-right true b h = h
-and-right false b h = let o : _≡_ {A = ℕ} 0 1 = cc in absurd (omega arith)
 
 pub digit-low : (b : ℕ) → isDigit b ≡ true → 48 ≤ b
 digit-low b h = leb-true _ _ (and-left (leb 48 b) (leb b 57) h)

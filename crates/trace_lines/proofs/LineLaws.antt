@@ -18,7 +18,7 @@ use Rattle.trace_lines.specs.declared.command.Command.the-variants.{Unkn
 use Rattle.trace_lines.specs.Words.{bytes, Rest, rest, bad, Read, field, Two, two, afterKey, numberOf, ended, restOf, readOf, pairOf}
 use Rattle.trace_lines.specs.Sets.{Members, these, none, setOf, numbersOf, isThese, filled, setIn}
 use Rattle.trace_lines.specs.Lines.{Said, op-new, op-match, op-write, op-ack, op-sent, op-frag, op-evict, unknown, atEnd, withSet, orElse, newOf, matchOf, writeOf, sentOf, evictOf, plainOf, ackOf, fragOf, said, commandOf, numbersIn, answered, isKnown}
-use Rattle.trace_lines.proofs.Laws.{here, done}
+use Rattle.sets.proofs.Loops.{here, done}
 
 -- the start of the line
 abbrev pub Start : Place → Type 0

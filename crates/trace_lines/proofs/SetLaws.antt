@@ -9,13 +9,13 @@ use lib.Dec.{leb, eqb}
 use lib.ListN.{length, take, drop, getD, set, replicate, length-append, length-replicate, getD-replicate, length-take, length-drop, take-append-drop}
 use lib.Seq.{take-suc-set, length-take-le, take-at, take-suc, take-all, append-snoc, set-at, drop-drop}
 use borrow.Author.Tests.{eq-eqb, ne-eqb, le-leb, lt-leb}
+use Rattle.sets.proofs.Loops.{here, done}
 use Rattle.numbers.specs.Promise.{Gives1}
 use Rattle.trace_lines.specs.declared.Place.{Place}
 use Rattle.trace_lines.specs.declared.Number.{Number}
 use Rattle.trace_lines.specs.declared.set.Listed.{Listed}
 use Rattle.trace_lines.specs.Words.{Rest, rest, bad, Read, numberIn, restOf, readOf}
 use Rattle.trace_lines.specs.Sets.{Members, these, none, also, afterNumber, listedIn, setFrom, setOf, toldBy, numbersOf, filled, Listing, isThese, setIn}
-use Rattle.trace_lines.proofs.Laws.{here, done}
 
 -- the numbers p, and then ms
 abbrev pub prefixed : List ℕ → Members → Members
@@ -58,22 +58,6 @@ none-listed ms n room e = record { told = sym e; count = ap (λ (x : Members). l
 
 pub some-listed : (ms : Members) (n k : ℕ) (room : List ℕ) → ms ≡ these (take k room) → k ≤ length room → k ≤ n → Listing ms n (record { count = k; ok = true }) room
 some-listed ms n k room e h g = record { told = sym e; count = sym (ap (λ (x : Members). length (numbersOf x)) e ∙ length-take-le k room h); within = g }
-
--- ---- a loop that writes: t is what the slice is to hold at the end, s what it held at the start
-abbrev pub upto : List ℕ → List ℕ → ℕ → List ℕ
-upto t s i = take i t ++ drop i s
-
-module _ (t s : List ℕ) (same : length t ≡ length s) where
-  pub upto-more : (i v : ℕ) → i < length s → v ≡ getD t i 0 → set (upto t s i) i v ≡ upto t s (i + 1)
-  upto-more i v h e =
-      let p : length (take i t) ≡ i = length-take-le i t (omega arith) in
-      let q : i < length t = omega arith in
-      rw (here s i h, set-at (take i t) _ _ v i p, add-one, take-suc t i 0 q, append-snoc, e)
-
-  pub upto-all : (i : ℕ) → length s ≤ i → upto t s i ≡ t
-  upto-all i h =
-      let q : length t ≤ i = omega arith in
-      rw (done s i h, take-all i t q, append-nil)
 
 -- ---- the room
 pub listed-numbers : (ms : Members) (n : ℕ) (r : Listed) (room : List ℕ) → Listing ms n r room → take (r .count) room ≡ numbersOf ms

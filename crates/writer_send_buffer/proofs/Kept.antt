@@ -9,6 +9,7 @@ use lib.Dec.{ltb, leb}
 use lib.ListN.{length, getD, set, length-set, length-append, List·getD-append}
 use lib.Seq.{getD-set-same, getD-set-other, getD-append-seam}
 use borrow.Author.Tests.{le-leb, leb-true, eq-eqb, eqb-true}
+use Rattle.sets.proofs.Bools.{and-left, and-right, and-both}
 use Rattle.numbers.specs.Number.{rankOf}
 use Rattle.numbers.specs.Refusals.{answerOf, isDone, done}
 use Rattle.numbers.specs.declared.answer.Answer.{Answer}
@@ -22,7 +23,7 @@ use Rattle.writer_send_buffer.specs.Samples.{slotOf, bytesOf, over, leng
 use Rattle.writer_send_buffer.specs.History.{Lent, Call, admit, setAcked, setSent, removeBefore, leaves, wrote, run, history, Kept}
 use Rattle.writer_send_buffer.proofs.Lists.{slot-in}
 use Rattle.writer_send_buffer.proofs.Slots.{lt-or-ge, apart, over-length, over-same, over-other}
-use Rattle.writer_send_buffer.proofs.Sound.{holds, all-hold, and-left, and-right, and-both, Fits, Sound, sound-is, Writes, writes-is, slot-below, next-slot, length-fits, fit-of}
+use Rattle.writer_send_buffer.proofs.Sound.{holds, all-hold, Fits, Sound, sound-is, Writes, writes-is, slot-below, next-slot, length-fits, fit-of}
 use Rattle.writer_send_buffer.proofs.Steps.{by-range, leftBy, view-form, form-coherent, After, after, fits-admitted, fits-stored, fits-raised, fits-evicted}
 
 -- ---- a retained sample of a coherent store is shown

@@ -7,6 +7,5 @@ pub mod Steps
 pub mod Window
 pub mod Kept
 pub mod Cells
-pub mod Table
 pub mod Unique
 pub mod Coherent

@@ -9,6 +9,7 @@ use lib.Dec.{leb}
 use lib.ListN.{length, getD, take, drop}
 use lib.Seq.{drop-drop}
 use borrow.Author.Tests.{le-leb, leb-true, ltb-false, eqb-true, eqb-false, not-false}
+use Rattle.sets.proofs.Bools.{and-left, and-right, and-both}
 use Rattle.numbers.specs.Number.{rankOf, negative}
 use Rattle.numbers.specs.declared.sequence_number.SequenceNumber.{SequenceNumber}
 use Rattle.numbers.specs.Refusals.{answerOf, isDone, done}
@@ -20,18 +21,6 @@ use Rattle.writer_send_buffer.specs.Flow.{Flow, allOf, limitRows, allowe
 use Rattle.writer_send_buffer.specs.Buffer.{view, isCoherent}
 use Rattle.writer_send_buffer.specs.Samples.{lengthsFit, storeRows, isCoherentStore, writeRows, slotOf, startOf, over, fetchRows, bytesOf, locateOf, fetchOf}
 use Rattle.writer_send_buffer.proofs.Lists.{slot-in}
-
--- ---- a row of a list of tests, each of which holds
-pub and-left : (a b : Bool) → (a && b) ≡ true → a ≡ true
-and-left true b h = refl
-and-left false b h = h
-
-pub and-right : (a b : Bool) → (a && b) ≡ true → b ≡ true
-and-right true b h = h
-and-right false b h = let o : _≡_ {A = ℕ} 0 1 = cc in absurd (omega arith)
-
-pub and-both : (a b : Bool) → a ≡ true → b ≡ true → (a && b) ≡ true
-and-both a b h k = rw (h, k)
 
 pub holds : (bs : List Bool) → allOf bs ≡ true → (i : ℕ) → getD bs i true ≡ true
 holds [] h i = refl

@@ -6,6 +6,7 @@ use native.Mathlib.Omega.{arith}
 use lib.IntN.{ℤ, pos, negsuc}
 use lib.Dec.{leb, ltb, eqb}
 use borrow.Author.Tests.{eqb-false, eqb-true, leb-false, lt-ltb, ltb-false, not-false}
+use Rattle.sets.proofs.Bools.{and-both}
 use Rattle.numbers.specs.Number.{rankOf, negative, numberAt, below0, natOf}
 use Rattle.numbers.specs.Refusals.{answerOf, isDone, unless}
 use Rattle.numbers.specs.Promise.{Left1}
@@ -17,7 +18,7 @@ use Rattle.writer_send_buffer.specs.declared.limits.Limits.{Limits}
 use Rattle.writer_send_buffer.specs.declared.flow.WriterSendBuffer.{WriterSendBuffer}
 use Rattle.writer_send_buffer.specs.Flow.{Flow, allowed, fits, blank, trims, full, usedUp, trimmed, admitted, ahead, stored, raised, evicted}
 use Rattle.writer_send_buffer.specs.Buffer.{view, form, isCoherent, ranged}
-use Rattle.writer_send_buffer.proofs.Sound.{Fits, Allowed, allowed-is, is-fits, coherent-is, and-both}
+use Rattle.writer_send_buffer.proofs.Sound.{Fits, Allowed, allowed-is, is-fits, coherent-is}
 
 -- ---- numbers
 pub rank-at : (n : ℕ) → n < 9223372036854775808 → rankOf (numberAt n) ≡ n

@@ -5,9 +5,10 @@ use mathlib.Core.Bool.{Bool, true, false, not, cond, _&&_, _||_}
 use native.Mathlib.Omega.{arith}
 use lib.Dec.{leb, ltb}
 use borrow.Author.Tests.{leb-false, ltb-true, le-ltb}
+use Rattle.sets.proofs.Bools.{and-left, and-right}
 use Rattle.numbers.specs.Refusals.{answerOf}
 use Rattle.writer_send_buffer.specs.Flow.{Flow, mayBlock, room, trims, full, usedUp, admitted, admitRows}
-use Rattle.writer_send_buffer.proofs.Sound.{Fits, and-left, and-right}
+use Rattle.writer_send_buffer.proofs.Sound.{Fits}
 
 module _ (f : Flow) (opted : Bool) (plain : f .kind .builtin ≡ false) where
   module _ (blocks : mayBlock f opted ≡ true) where

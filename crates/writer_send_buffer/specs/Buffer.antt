@@ -17,7 +17,7 @@ use Rattle.writer_send_buffer.specs.declared.flow.Numbered.{Numbered}
 use Rattle.writer_send_buffer.specs.declared.flow.Moved.{Moved}
 use Rattle.reader_list.specs.declared.heads.AckedFrontier.{AckedFrontier}
 use Rattle.writer_send_buffer.specs.declared.frontiers.Woken.{Woken}
-use Rattle.writer_send_buffer.specs.Flow.{Flow, allowed, counted, fits, blank, room, ahead, stored, wakes, raised, ackedThrough, evicted}
+use Rattle.writer_send_buffer.specs.Flow.{Flow, allowed, counted, fits, blank, room, ahead, unwritten, stored, wakes, raised, ackedThrough, evicted}
 
 -- the record on natural numbers, and back
 abbrev pub view : WriterSendBuffer → Flow
@@ -92,10 +92,9 @@ ackedOf f a =
     (λ no. record { result = toldNo no; first = f })
     (record { result = record { answer = done; yes = wakes (frontierOf a) (view f) }; first = form (stored (frontierOf a) (view f)) })
 
--- "so is a sent frontier above last"
 abbrev pub sentOf : WriterSendBuffer → SequenceNumber → Left1 Told WriterSendBuffer
 sentOf f n =
-    unless (ranged (isCoherent f) (ltb (rankOf (f .last)) (rankOf n)))
+    unless (ranged (isCoherent f) (unwritten (rankOf n) (view f)))
     (λ no. record { result = toldNo no; first = f })
     (record { result = record { answer = done; yes = ltb (rankOf (f .sent)) (rankOf n) }; first = form (raised (rankOf n) (view f)) })
 

@@ -115,6 +115,10 @@ admitRows coherent len f opted =
 abbrev pub ahead : ℕ → Flow → Bool
 ahead a f = ltb (f .last + 1) a
 
+-- "so is a sent frontier above last"
+abbrev pub unwritten : ℕ → Flow → Bool
+unwritten n f = ltb (f .last) n
+
 -- "Storing it may lower it"
 abbrev pub stored : ℕ → Flow → Flow
 stored a f = record { last = f .last; first = f .first; sent = f .sent; acked = cond (eqb a 0) (f .acked) a; present = not (eqb a 0); kind = f .kind; limits = f .limits }

@@ -3,4 +3,3 @@ pub mod Flow
 pub mod Buffer
 pub mod Samples
 pub mod History
-pub mod Examples

@@ -5,7 +5,8 @@ use mathlib.Core.List.{List}
 use native.Mathlib.Omega.{arith}
 use lib.ListN.{length, take, drop, getD, set, length-set}
 use Rattle.rising.specs.Runs.{filled}
-use Rattle.rising.proofs.Lists.{upto, upto-more, filled-length, filled-at, filled-end}
+use Rattle.sets.proofs.Loops.{upto, upto-more}
+use Rattle.rising.proofs.Lists.{filled-length, filled-at, filled-end}
 use borrow.Author.Needs.{needs}
 use Rattle.rising.proofs.run.copy.Statement.{statement}
 use Rattle.rising.proofs.run.copy.Tie as tie

@@ -5,7 +5,8 @@ use mathlib.Core.List.{List}
 use mathlib.Core.Logic.{⊎-elim}
 use native.Mathlib.Omega.{arith}
 use lib.ListN.{length, take, drop, getD, set, length-set}
-use Rattle.rising.proofs.Lists.{here, done, upto, upto-more, upto-kept, upto-all, dropped, dropped-length, dropped-front, dropped-back, downto, downto-more, downto-kept, downto-none, downto-step, lifted, lifted-length, lifted-front, lifted-back}
+use Rattle.sets.proofs.Loops.{here, done, upto, upto-more, upto-kept, upto-all}
+use Rattle.rising.proofs.Lists.{dropped, dropped-length, dropped-front, dropped-back, downto, downto-more, downto-kept, downto-none, downto-step, lifted, lifted-length, lifted-front, lifted-back}
 use borrow.Author.Needs.{needs}
 use Rattle.rising.proofs.run.drop_front.Statement.{statement}
 use Rattle.rising.proofs.run.drop_front.Tie as tie

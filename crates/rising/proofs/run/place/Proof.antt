@@ -9,7 +9,8 @@ use lib.Dec.{eqb}
 use lib.ListN.{length, take, drop, getD, set, length-set}
 use borrow.Author.Tests.{le-leb, lt-leb}
 use Rattle.rising.specs.Runs.{risesAbove, zeros, placeOf}
-use Rattle.rising.proofs.Lists.{here, done, upto, upto-more, upto-kept, upto-all, dropped, dropped-length, dropped-front, dropped-back, downto, downto-more, downto-kept, downto-none, downto-step, lifted, lifted-length, lifted-front, lifted-back}
+use Rattle.sets.proofs.Loops.{here, done, upto, upto-more, upto-kept, upto-all}
+use Rattle.rising.proofs.Lists.{dropped, dropped-length, dropped-front, dropped-back, downto, downto-more, downto-kept, downto-none, downto-step, lifted, lifted-length, lifted-front, lifted-back}
 use Rattle.rising.proofs.Scans.{rises-more, rises-end, zeros-more, zeros-end, run-short, run-whole, holds-in, holds-out}
 use borrow.Author.Needs.{needs}
 use Rattle.rising.proofs.run.place.Statement.{statement}

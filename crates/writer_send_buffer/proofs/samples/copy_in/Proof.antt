@@ -4,7 +4,7 @@ use mathlib.Core.Path.{_≡_, refl, sym, ap, _∙_}
 use mathlib.Core.List.{List}
 use native.Mathlib.Omega.{arith}
 use lib.ListN.{length, getD, set, length-set}
-use Rattle.writer_send_buffer.proofs.Lists.{upto, upto-more, upto-all}
+use Rattle.sets.proofs.Loops.{upto, upto-more, upto-all}
 use Rattle.writer_send_buffer.proofs.samples.copy_in.Statement.{statement}
 use Rattle.writer_send_buffer.proofs.samples.copy_in.Tie as tie
 

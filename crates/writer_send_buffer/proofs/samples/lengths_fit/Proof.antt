@@ -7,8 +7,9 @@ use native.Mathlib.Nat.{mod-lt, add-zero, sub-zero}
 use native.Mathlib.Omega.{arith}
 use borrow.Author.Needs.{needs}
 use lib.ListN.{length}
+use Rattle.sets.proofs.Bools.{and-yes}
 use Rattle.writer_send_buffer.specs.Samples.{lengthsFit}
-use Rattle.writer_send_buffer.proofs.Lists.{mod-step, mod-wrap, fit-more, and-true}
+use Rattle.writer_send_buffer.proofs.Lists.{mod-step, mod-wrap, fit-more}
 use Rattle.writer_send_buffer.proofs.samples.lengths_fit.Statement.{statement}
 use Rattle.writer_send_buffer.proofs.samples.lengths_fit.Tie as tie
 
@@ -59,7 +60,7 @@ returns c =
     let l = c .before .loop in
     let a = c .before .before .args in
     let z : a .count - l .i ≡ 0 = omega arith in
-    sym (and-true (l .fit)) ∙ rw z at (l .inv .3)
+    sym (and-yes (l .fit)) ∙ rw z at (l .inv .3)
 
 pub lengths-fit-spec : {M : Type 1} → statement M
 lengths-fit-spec =

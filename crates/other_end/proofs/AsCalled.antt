@@ -1,0 +1,198 @@
+-- Every event of the writer is what its calls do, on the forms of the system's records. Assumes nothing.
+use Prim.Native.Nat.{ℕ, suc, _+_, _≤_}
+use mathlib.Core.Path.{_≡_, refl, sym, ap, subst, _∙_}
+use mathlib.Core.Bool.{Bool, true, false, cond}
+use mathlib.Core.List.{List, [], _∷_, map}
+use mathlib.Core.Option.{Option, none, some}
+use native.Mathlib.Omega.{arith}
+use lib.Dec.{ltb}
+use lib.ListN.{length, set}
+use borrow.Author.Tests.{eqb-true, eqb-false}
+use Rattle.sets.proofs.Bools.{clash}
+use Rattle.numbers.specs.Number.{topNumber, rankOf, numberAt}
+use Rattle.numbers.specs.Refusals.{answerOf, isDone, unless, done}
+use Rattle.numbers.specs.Promise.{Left1, Left3}
+use Rattle.numbers.specs.declared.answer.Answer.{Answer}
+use Rattle.numbers.specs.declared.answer.Rows.{Rows}
+use Rattle.numbers.specs.declared.sequence_number.SequenceNumber.{SequenceNumber}
+use Rattle.numbers.proofs.Refused.{done-is}
+use Rattle.number_sets.specs.Bits.{NumberSet, members}
+use Rattle.rtps_reader_proxy.specs.declared.proxy.Changed.{Changed}
+use Rattle.rtps_reader_proxy.specs.Reader.{Reader, acknowledge, notified}
+use Rattle.reader_record.specs.Whole.{form, Valid}
+use Rattle.reader_list.specs.Slots.{unknown}
+use Rattle.writer_send_buffer.specs.declared.flow.Told.{Told}
+use Rattle.writer_send_buffer.specs.declared.flow.Numbered.{Numbered}
+use Rattle.writer_send_buffer.specs.declared.flow.WriterSendBuffer.{WriterSendBuffer}
+use Rattle.writer_send_buffer.specs.Flow.{Flow, admitRows, admitted, ahead, unwritten, raised, evicted}
+use Rattle.writer_send_buffer.specs.Buffer.{form as flowForm, ranged, noNumber, toldNo, lastOf}
+use Rattle.writer_send_buffer.specs.Samples.{isCoherentStore, startOf, slotOf, over, admitOf}
+use Rattle.writer_send_buffer.proofs.Steps.{view-form, form-coherent as flow-coherent}
+use Rattle.writer_steps.specs.Write.{told}
+use Rattle.other_end.specs.Calls.{Call, result, callRows}
+use Rattle.other_end.specs.System.{Line, Body, sample, gap, beat, ack, Msg, State, Event, match, depart, write, sentTo, evictTo, call, heartbeat, send, reply, deliver, find, upd, nth, onServer, withLines, withFlow, tried, ackRows, acknowledges, called, writeRows, sentRows, evictRows, wrote, evicts, arrive, step}
+use Rattle.other_end.specs.AsCalled.{Acks, ackOn, Arrives, Delivers, keptForm, Writes, WriteCalled, SentCalled, EvictCalled, Outcome, CallCalled, AsCalled}
+use Rattle.other_end.proofs.Found.{none-some, some-line, find-same, All, found-all}
+use Rattle.other_end.proofs.Calls.{done-clear}
+use Rattle.other_end.proofs.Fine.{Sane}
+use Rattle.other_end.proofs.Steps.{does-notify, does-call, does-sent, does-evict}
+use Rattle.other_end.proofs.Sound.{Sound}
+use Rattle.other_end.proofs.Listed.{match-called, depart-called}
+use Rattle.other_end.proofs.Acked.{acks-so}
+use Rattle.other_end.proofs.Sends.{send-called}
+
+module _ (s : State) (h : Sound s) where
+  -- AN ACKNACK
+  module _ (i : ℕ) (z : NumberSet) (near : z .base ≤ suc (s .flow .last)) where
+    ack-found : (l l′ : Line) → find i (s .lines) ≡ some l → find i (arrive i (ack z) s .lines) ≡ some l′ → Acks (ackOn i z s (l .server)) (answerOf (ackRows i z s)) (arrive i (ack z) s) (l′ .server)
+    ack-found l l′ e e′ =
+        subst (λ (r′ : Reader). Acks (ackOn i z s (l .server)) (answerOf (ackRows i z s)) (arrive i (ack z) s) r′) (go (isDone (answerOf (ackRows i z s))) e′)
+        (acks-so s h i z (l .server) (h .lines i l e .valid) near (λ _. ap (λ x. x .acked) (h .held i l e .head)))
+      where
+        up : Reader → Reader
+        up = acknowledge (s .flow .last) (z .base) (members z)
+
+        go : (t : Bool) → find i (cond t (acknowledges i z s) s .lines) ≡ some l′ → cond t (up (l .server)) (l .server) ≡ l′ .server
+        go true q = ap (λ (x : Line). x .server) (some-line (sym (find-same i (onServer up) (λ x. refl) (s .lines) l e) ∙ q))
+        go false q = ap (λ (x : Line). x .server) (some-line (sym e ∙ q))
+
+    ack-unknown : find i (s .lines) ≡ none → (r : Reader) → Valid r → Acks (ackOn i z s r) (answerOf (ackRows i z s)) s r × (arrive i (ack z) s ≡ s)
+    ack-unknown e r v = go (unknown i (s .heads)) refl
+      where
+        go : (off : Bool) → unknown i (s .heads) ≡ off → Acks (ackOn i z s r) (answerOf (ackRows i z s)) s r × (arrive i (ack z) s ≡ s)
+        go false q = let w = h .known i q in none-some (sym e ∙ w .1)
+        go true q =
+            let no : isDone (answerOf (ackRows i z s)) ≡ false = refuses (ackRows i z s) q in (
+              subst (λ (t : Bool). Acks (ackOn i z s r) (answerOf (ackRows i z s)) (cond t (acknowledges i z s) s) (cond t (acknowledge (s .flow .last) (z .base) (members z) r) r)) no
+                  (acks-so s h i z r v near (λ w. clash (unknown i (s .heads)) q w)),
+              ap (λ (t : Bool). cond t (acknowledges i z s) s) no,
+            )
+          where
+            refuses : (rows : Rows) → rows .reader ≡ true → isDone (answerOf rows) ≡ false
+            refuses rows w = by (isDone (answerOf rows)) refl
+              where
+                by : (t : Bool) → isDone (answerOf rows) ≡ t → t ≡ false
+                by true d = clash (rows .reader) w (done-clear rows d .reader)
+                by false d = refl
+
+  delivered : (k : ℕ) (o : Option Msg) → nth (s .net) k ≡ o → Delivers o s
+  delivered k none e = tt
+  delivered k (some m) e = arrived (m .body) (h .sane k m e)
+    where
+      arrived : (b : Body) → Sane (s .flow .last) b → Arrives (m .line) b s
+      arrived (sample n) g = tt
+      arrived (gap n) g = tt
+      arrived (beat n) g = tt
+      arrived (ack z) g = (ack-found (m .line) z g, ack-unknown (m .line) z g)
+
+  -- A WRITE
+  told-all : (n : ℕ) → 1 ≤ n → n ≤ topNumber → (ls : List Line) → All (λ l. Valid (l .server)) ls → map (told (numberAt n)) (map keptForm ls) ≡ map keptForm (map (onServer (notified n)) ls)
+  told-all n p q [] v = refl
+  told-all n p q (l ∷ ls) v = λ j. one j ∷ told-all n p q ls (v .1) j
+    where
+      one : told (numberAt n) (keptForm l) ≡ keptForm (onServer (notified n) l)
+      one = ap (λ (o : Left1 Changed (List ℕ)). record { proxy = o .result .proxy; unsent = o .first }) (does-notify (l .server) (v .0) n p q)
+
+  write-called : (len : ℕ) (opted : Bool) → WriteCalled len opted s
+  write-called len opted store lens payload el c =
+      subst (λ (o : Left3 Numbered WriterSendBuffer (List ℕ) (List ℕ)). Writes (record { writer = o; readers = cond (isDone (o .result .answer)) (map (told (o .result .number)) (map keptForm (s .lines))) (map keptForm (s .lines)) }) (answerOf (writeRows len opted s)) (step (write len opted) s)) (sym is)
+      (go (isDone (answerOf (writeRows len opted s))) refl)
+    where
+      by : Bool → ℕ → Flow → Left3 Numbered WriterSendBuffer (List ℕ) (List ℕ)
+      by t n g =
+          unless (admitRows t n g opted) (λ no. record { result = noNumber no; first = flowForm (s .flow); second = store; third = lens })
+          (record {
+            result = record { answer = done; number = numberAt (g .last + 1) };
+            first = flowForm (admitted g opted);
+            second = over store (startOf g (g .last + 1)) payload;
+            third = set lens (slotOf g (g .last + 1)) n;
+          })
+
+      is : admitOf (flowForm (s .flow)) store lens payload opted ≡ by true len (s .flow)
+      is = ap (λ (g : Flow). by (isCoherentStore (flowForm (s .flow)) (length store) lens) (length payload) g) (view-form (s .flow) (h .flow)) ∙ ap (λ (t : Bool). by t (length payload) (s .flow)) c ∙ ap (λ (n : ℕ). by true n (s .flow)) el
+
+      done-by : Left3 Numbered WriterSendBuffer (List ℕ) (List ℕ)
+      done-by =
+          record {
+            result = record { answer = done; number = numberAt (s .flow .last + 1) };
+            first = flowForm (admitted (s .flow) opted);
+            second = over store (startOf (s .flow) (s .flow .last + 1)) payload;
+            third = set lens (slotOf (s .flow) (s .flow .last + 1)) len;
+          }
+
+      not-by : Left3 Numbered WriterSendBuffer (List ℕ) (List ℕ)
+      not-by = record { result = noNumber (answerOf (writeRows len opted s)); first = flowForm (s .flow); second = store; third = lens }
+
+      outcome : Left3 Numbered WriterSendBuffer (List ℕ) (List ℕ) → State → Type 0
+      outcome o s′ = Writes (record { writer = o; readers = cond (isDone (o .result .answer)) (map (told (o .result .number)) (map keptForm (s .lines))) (map keptForm (s .lines)) }) (answerOf (writeRows len opted s)) s′
+
+      go : (t : Bool) → isDone (answerOf (writeRows len opted s)) ≡ t → outcome (cond t done-by not-by) (cond t (wrote opted s) s)
+      go true e =
+          let k = done-clear (writeRows len opted s) e in
+          let d : (s .flow .last ≡ topNumber → ⊥) = eqb-false (s .flow .last) topNumber (k .used-up) in
+          record {
+            answer = sym (done-is (answerOf (writeRows len opted s)) (eqb-true (answerOf (writeRows len opted s) .number) 0 e));
+            flow = refl;
+            number = λ w. refl;
+            readers = told-all (s .flow .last + 1) (omega arith) (omega (arith, h .flow .last-most)) (s .lines) (found-all (λ l. Valid (l .server)) (s .lines) (h .apart) (λ i l w. h .lines i l w .valid));
+          }
+      go false e =
+          record {
+            answer = refl;
+            flow = refl;
+            number = λ w. clash (isDone (answerOf (writeRows len opted s))) w e;
+            readers = ap (λ (t : Bool). cond t (map (told (numberAt 0)) (map keptForm (s .lines))) (map keptForm (s .lines))) e;
+          }
+
+  -- THE FRONTIERS AND EVICTION
+  sent-called : (n : SequenceNumber) → SentCalled n s
+  sent-called n = subst (λ (o : Left1 Told WriterSendBuffer). (o .result .answer ≡ answerOf (sentRows n s)) × (o .first ≡ flowForm (step (sentTo n) s .flow))) (sym (does-sent (s .flow) (h .flow) n)) (go (unwritten (rankOf n) (s .flow)))
+    where
+      out : Bool → Left1 Told WriterSendBuffer
+      out t = unless (ranged true t) (λ a. record { result = toldNo a; first = flowForm (s .flow) }) (record { result = record { answer = done; yes = ltb (s .flow .sent) (rankOf n) }; first = flowForm (raised (rankOf n) (s .flow)) })
+
+      go : (t : Bool) → (out t .result .answer ≡ answerOf (ranged true t)) × (out t .first ≡ flowForm (tried (ranged true t) s (withFlow (raised (rankOf n) (s .flow)) s) .flow))
+      go true = (refl, refl)
+      go false = (refl, refl)
+
+  evict-called : (n : SequenceNumber) → EvictCalled n s
+  evict-called n = subst (λ (o : Left1 Answer WriterSendBuffer). (o .result ≡ answerOf (evictRows n s)) × (o .first ≡ flowForm (step (evictTo n) s .flow))) (sym (does-evict (s .flow) (h .flow) n)) (go (ahead (rankOf n) (s .flow)))
+    where
+      out : Bool → Left1 Answer WriterSendBuffer
+      out t = unless (ranged true t) (λ a. record { result = a; first = flowForm (s .flow) }) (record { result = done; first = flowForm (evicted (rankOf n) (s .flow)) })
+
+      go : (t : Bool) → (out t .result ≡ answerOf (ranged true t)) × (out t .first ≡ flowForm (tried (ranged true t) s (evicts (rankOf n) s) .flow))
+      go true = (refl, refl)
+      go false = (refl, refl)
+
+  -- THE OTHER CALLS
+  call-called : (i : ℕ) (c : Call) → CallCalled i c s
+  call-called i c l l′ e e′ =
+      does-call (l .server) (h .lines i l e .valid) (s .flow .last) (h .flow .last-most) c
+      ∙ go (isDone (answerOf rows)) refl (subst (λ (o : Option Line). find i (called i c o s .lines) ≡ some l′) e e′)
+    where
+      rows : Rows
+      rows = callRows (s .flow .last) c (l .server)
+
+      go : (t : Bool) → isDone (answerOf rows) ≡ t → find i (cond t (withLines (upd i (onServer (result c)) (s .lines)) s) s .lines) ≡ some l′
+          → _≡_ {A = Outcome} (cond t (record { answer = done; left = form (result c (l .server)) }) (record { answer = answerOf rows; left = form (l .server) })) (record { answer = answerOf rows; left = form (l′ .server) })
+      go true d q =
+          ap (λ (a : Answer). record { answer = a; left = form (result c (l .server)) }) (sym (done-is (answerOf rows) (eqb-true (answerOf rows .number) 0 d)))
+          ∙ ap (λ (x : Line). record { answer = answerOf rows; left = form (x .server) }) (some-line (sym (find-same i (onServer (result c)) (λ x. refl) (s .lines) l e) ∙ q))
+      go false d q = ap (λ (x : Line). record { answer = answerOf rows; left = form (x .server) }) (some-line (sym e ∙ q))
+
+  -- THE HEARTBEAT'S NUMBER
+  beat-called : lastOf (flowForm (s .flow)) ≡ record { answer = done; number = numberAt (s .flow .last) }
+  beat-called = ap (λ (t : Bool). unless (ranged t false) noNumber (record { answer = done; number = numberAt (s .flow .last) })) (flow-coherent (s .flow) (h .flow))
+
+  pub as-called : (e : Event) → AsCalled e s
+  as-called (match i r m) = match-called s h i r m
+  as-called (depart i) = depart-called s h i
+  as-called (write len opted) = write-called len opted
+  as-called (sentTo n) = sent-called n
+  as-called (evictTo n) = evict-called n
+  as-called (call i c) = call-called i c
+  as-called (heartbeat i) = beat-called
+  as-called (send i) = send-called s h i
+  as-called (reply i) = tt
+  as-called (deliver k) = delivered k (nth (s .net) k) refl

@@ -1,0 +1,159 @@
+-- THE CALLS DO THE SYSTEM'S STEPS. For each event of the writer: what its calls answer and leave, by their own promises, on the records as the calls hold
+-- them, is the answer of the system's rows (0 just where the step isn't refused) and the records of the system's next state.
+-- A flow record is held as `flowForm`, the reader list as `listForm`, a reader's record as `form`: its head and four rooms. Assumes nothing.
+use Prim.Native.Nat.{ℕ}
+use mathlib.Core.Path.{_≡_}
+use mathlib.Core.Bool.{Bool, true, cond}
+use mathlib.Core.List.{List, [], _∷_, map}
+use mathlib.Core.Option.{Option, none, some}
+use lib.ListN.{length}
+use Rattle.sets.specs.Sets.{empty}
+use Rattle.numbers.specs.Number.{rankOf, numberAt}
+use Rattle.numbers.specs.Refusals.{row, rowsOf, answerOf, done, isDone}
+use Rattle.numbers.specs.Promise.{Left1, Left2, Left3}
+use Rattle.numbers.specs.declared.answer.Answer.{Answer}
+use Rattle.numbers.specs.declared.sequence_number.SequenceNumber.{SequenceNumber}
+use Rattle.number_sets.specs.declared.sequence_number_set.SequenceNumberSet.{SequenceNumberSet}
+use Rattle.number_sets.specs.Bits.{NumberSet}
+use Rattle.rtps_reader_proxy.specs.declared.proxy.Changed.{Changed}
+use Rattle.rtps_reader_proxy.specs.Reader.{Reader}
+use Rattle.rtps_reader_proxy.specs.Record.{headOf as proxyOf, unsentRoom, gapRoom}
+use Rattle.rtps_reader_proxy.specs.Unsent.{newOf, markedSentOf, removedBeforeOf}
+use Rattle.rtps_reader_proxy.specs.Gaps.{gapInsertedOf, gapUpToOf}
+use Rattle.rtps_reader_proxy.specs.Fragments.{fragsRequestedOf, fragSentOf}
+use Rattle.reader_record.specs.Whole.{Picture, form, Valid}
+use Rattle.reader_list.specs.declared.heads.ReaderHead.{ReaderHead}
+use Rattle.reader_list.specs.Slots.{listForm}
+use Rattle.writer_send_buffer.specs.declared.frontiers.Woken.{Woken}
+use Rattle.writer_send_buffer.specs.Buffer.{form as flowForm, lastOf, sentOf, evictOf}
+use Rattle.writer_send_buffer.specs.Samples.{isCoherentStore}
+use Rattle.writer_steps.specs.declared.acks.AckStep.{AckStep}
+use Rattle.writer_steps.specs.declared.send.Sent.{Sent}
+use Rattle.writer_steps.specs.Readers.{matchStep, departStep}
+use Rattle.writer_steps.specs.Acks.{ackStep}
+use Rattle.writer_steps.specs.Send.{sendOf}
+use Rattle.writer_steps.specs.Write.{Kept, Written, writeStep}
+use Rattle.other_end.specs.Calls.{Call, gapAt, gapTo, askFrags, sentFrag, markSent, removeBefore, callRows}
+use Rattle.other_end.specs.System.{Line, Body, sample, gap, beat, ack, Msg, State, Event, match, depart, write, sentTo, evictTo, call, heartbeat, send, reply, deliver, find, nth, matchRows, departRows, newcomer, ackRows, writeRows, sentRows, evictRows, arrive, step}
+
+-- A MATCH AND A DEPARTURE: the answer, the flow record with the frontier stored, and the list
+pub record Lists (o : Left1 Woken (List ReaderHead)) (a : Answer) (s′ : State) : Type 0 where
+  pub answer : o .result .told .answer ≡ a
+  pub flow : o .result .flow ≡ flowForm (s′ .flow)
+  pub list : o .first ≡ listForm (s′ .heads)
+
+-- the record of a reader that is matched is a new one: its head is what `new` gives (its rooms are all zeros)
+abbrev pub MatchCalled : ℕ → Bool → ℕ → State → Type 0
+MatchCalled i r m s =
+    Lists (matchStep (listForm (s .heads)) (flowForm (s .flow)) (record { id = i; reliable = r; cap = m })) (answerOf (matchRows i m s)) (step (match i r m) s)
+    × (isDone (answerOf (matchRows i m s)) ≡ true → newOf m ≡ record { answer = done; proxy = proxyOf (newcomer i r m s .server) })
+
+abbrev pub DepartCalled : ℕ → State → Type 0
+DepartCalled i s = Lists (departStep (listForm (s .heads)) (flowForm (s .flow)) i) (answerOf (departRows i s)) (step (depart i) s)
+
+-- AN ACKNACK: besides, the reader's head, its unsent numbers and its gaps; its fragments aren't lent
+pub record Acks (o : Left3 AckStep (List ReaderHead) (List ℕ) (List ℕ)) (a : Answer) (s′ : State) (r′ : Reader) : Type 0 where
+  pub answer : o .result .woken .told .answer ≡ a
+  pub flow : o .result .woken .flow ≡ flowForm (s′ .flow)
+  pub list : o .first ≡ listForm (s′ .heads)
+  pub head : o .result .proxy ≡ proxyOf r′
+  pub unsent : o .second ≡ unsentRoom r′
+  pub gaps : o .third ≡ gapRoom r′
+
+-- the set as the call takes it
+abbrev pub setForm : NumberSet → SequenceNumberSet
+setForm z = record { base = numberAt (z .base); count = z .count; words = z .words }
+
+abbrev pub ackOn : ℕ → NumberSet → State → Reader → Left3 AckStep (List ReaderHead) (List ℕ) (List ℕ)
+ackOn i z s r = ackStep (listForm (s .heads)) (flowForm (s .flow)) i (setForm z) (proxyOf r) (unsentRoom r) (gapRoom r)
+
+-- from a reader that is there; and from one that isn't, whatever record is lent: nothing changes
+abbrev pub AckCalled : ℕ → NumberSet → State → Type 0
+AckCalled i z s =
+    ((l l′ : Line) → find i (s .lines) ≡ some l → find i (arrive i (ack z) s .lines) ≡ some l′ → Acks (ackOn i z s (l .server)) (answerOf (ackRows i z s)) (arrive i (ack z) s) (l′ .server))
+    × (find i (s .lines) ≡ none → (r : Reader) → Valid r → Acks (ackOn i z s r) (answerOf (ackRows i z s)) s r × (arrive i (ack z) s ≡ s))
+
+abbrev pub Arrives : ℕ → Body → State → Type 0
+Arrives i (ack z) s = AckCalled i z s
+Arrives i (sample n) s = Unit {0}
+Arrives i (gap n) s = Unit {0}
+Arrives i (beat k) s = Unit {0}
+
+abbrev pub Delivers : Option Msg → State → Type 0
+Delivers none s = Unit {0}
+Delivers (some m) s = Arrives (m .line) (m .body) s
+
+-- A WRITE, with any coherent store that is lent: the answer, the flow record, the number given, and each reader's head and unsent numbers
+abbrev pub keptForm : Line → Kept
+keptForm l = record { proxy = proxyOf (l .server); unsent = unsentRoom (l .server) }
+
+pub record Writes (o : Written) (a : Answer) (s′ : State) : Type 0 where
+  pub answer : o .writer .result .answer ≡ a
+  pub flow : o .writer .first ≡ flowForm (s′ .flow)
+  pub number : isDone a ≡ true → o .writer .result .number ≡ numberAt (s′ .flow .last)
+  pub readers : o .readers ≡ map keptForm (s′ .lines)
+
+abbrev pub WriteCalled : ℕ → Bool → State → Type 0
+WriteCalled len opted s =
+    (store lens payload : List ℕ) → length payload ≡ len → isCoherentStore (flowForm (s .flow)) (length store) lens ≡ true
+    → Writes (writeStep (flowForm (s .flow)) store lens payload opted (map keptForm (s .lines))) (answerOf (writeRows len opted s)) (step (write len opted) s)
+
+-- THE FRONTIERS AND EVICTION
+abbrev pub SentCalled : SequenceNumber → State → Type 0
+SentCalled n s = (sentOf (flowForm (s .flow)) n .result .answer ≡ answerOf (sentRows n s)) × (sentOf (flowForm (s .flow)) n .first ≡ flowForm (step (sentTo n) s .flow))
+
+abbrev pub EvictCalled : SequenceNumber → State → Type 0
+EvictCalled n s = (evictOf (flowForm (s .flow)) n .result ≡ answerOf (evictRows n s)) × (evictOf (flowForm (s .flow)) n .first ≡ flowForm (step (evictTo n) s .flow))
+
+-- THE OTHER CALLS ON A READER'S RECORD: the answer, and the record whole
+pub record Outcome : Type 0 where
+  pub answer : Answer
+  pub left : Picture
+
+abbrev pub onUnsent : Picture → Left1 Changed (List ℕ) → Outcome
+onUnsent p o = record { answer = o .result .answer; left = record { head = o .result .proxy; unsent = o .first; gaps = p .gaps; samples = p .samples; words = p .words } }
+
+abbrev pub onGaps : Picture → Left1 Changed (List ℕ) → Outcome
+onGaps p o = record { answer = o .result .answer; left = record { head = o .result .proxy; unsent = p .unsent; gaps = o .first; samples = p .samples; words = p .words } }
+
+abbrev pub onFrags : Picture → Left2 Changed (List ℕ) (List ℕ) → Outcome
+onFrags p o = record { answer = o .result .answer; left = record { head = o .result .proxy; unsent = p .unsent; gaps = p .gaps; samples = o .first; words = o .second } }
+
+abbrev pub calledOn : Call → SequenceNumber → Picture → Outcome
+calledOn (gapAt n) last p = onGaps p (gapInsertedOf n last (p .head) (p .gaps))
+calledOn (gapTo e) last p = onGaps p (gapUpToOf e last (p .head) (p .gaps))
+calledOn (askFrags n z) last p = onFrags p (fragsRequestedOf n z (p .head) (p .samples) (p .words))
+calledOn (sentFrag n f) last p = onFrags p (fragSentOf n f (p .head) (p .samples) (p .words))
+calledOn (markSent n) last p = onUnsent p (markedSentOf n (p .head) (p .unsent))
+calledOn (removeBefore n) last p = onUnsent p (removedBeforeOf n (p .head) (p .unsent))
+
+abbrev pub CallCalled : ℕ → Call → State → Type 0
+CallCalled i c s =
+    (l l′ : Line) → find i (s .lines) ≡ some l → find i (step (call i c) s .lines) ≡ some l′
+    → calledOn c (flowForm (s .flow) .last) (form (l .server)) ≡ record { answer = answerOf (callRows (s .flow .last) c (l .server)); left = form (l′ .server) }
+
+-- THE SEND STEP: 14 where nothing is unsent; else a message goes out, with the number sent as data or as a gap
+pub record Sends (o : Left1 Sent (List ℕ)) (i : ℕ) (r r′ : Reader) (s s′ : State) : Type 0 where
+  pub answer : o .result .answer ≡ answerOf (rowsOf (row 14 (empty (r .unsent)) ∷ []))
+  pub head : o .result .proxy ≡ proxyOf r′
+  pub unsent : o .first ≡ unsentRoom r′
+  pub posted : s′ .net
+      ≡ cond (isDone (o .result .answer)) (record { line = i; body = cond (o .result .«data») (sample (rankOf (o .result .number))) (gap (rankOf (o .result .number))) } ∷ s .net) (s .net)
+
+abbrev pub SendCalled : ℕ → State → Type 0
+SendCalled i s =
+    (l l′ : Line) → find i (s .lines) ≡ some l → find i (step (send i) s .lines) ≡ some l′
+    → Sends (sendOf (flowForm (s .flow)) (proxyOf (l .server)) (unsentRoom (l .server))) i (l .server) (l′ .server) s (step (send i) s)
+
+-- EVERY EVENT. A model reader's reply is no call of the writer
+abbrev pub AsCalled : Event → State → Type 0
+AsCalled (match i r m) s = MatchCalled i r m s
+AsCalled (depart i) s = DepartCalled i s
+AsCalled (write len opted) s = WriteCalled len opted s
+AsCalled (sentTo n) s = SentCalled n s
+AsCalled (evictTo n) s = EvictCalled n s
+AsCalled (call i c) s = CallCalled i c s
+AsCalled (heartbeat i) s = lastOf (flowForm (s .flow)) ≡ record { answer = done; number = numberAt (s .flow .last) }
+AsCalled (send i) s = SendCalled i s
+AsCalled (reply i) s = Unit {0}
+AsCalled (deliver k) s = Delivers (nth (s .net) k) s
