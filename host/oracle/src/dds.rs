@@ -26,9 +26,12 @@ pub mod qos {
 }
 
 pub mod ddsdata {
-    /// The payload: the bytes and nothing else.
+    use std::sync::Arc;
+
+    /// The payload: the bytes and nothing else. A clone shares them, as the
+    /// crate says of its own ("a cheap `Bytes`-backed clone").
     #[derive(Clone, Debug)]
-    pub struct DDSData(pub Vec<u8>);
+    pub struct DDSData(pub Arc<[u8]>);
 }
 
 pub mod with_key {

@@ -95,6 +95,11 @@ impl Reader {
             .collect()
     }
 
+    pub fn first_frag_requested(&self) -> Option<(i64, u32)> {
+        let (sample, fragment) = self.proxy.frags_requested_iterator().next()?;
+        Some((i64::from(sample), u32::from(fragment)))
+    }
+
     pub fn repair_frags_requested(&self) -> bool {
         self.proxy.repair_frags_requested()
     }

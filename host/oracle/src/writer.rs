@@ -67,7 +67,7 @@ impl Writer {
 
     /// `admit_blocking` with no time to wait; `None` is "would block".
     pub fn admit_blocking(&self, may_block: bool, bytes: &[u8]) -> Option<i64> {
-        let data = DDSData(bytes.to_vec());
+        let data = DDSData(bytes.into());
         let options = WriteOptions { may_block };
         match self
             .buffer
@@ -79,7 +79,7 @@ impl Writer {
     }
 
     pub fn try_admit(&self, may_block: bool, bytes: &[u8]) -> Option<i64> {
-        let data = DDSData(bytes.to_vec());
+        let data = DDSData(bytes.into());
         let options = WriteOptions { may_block };
         let admitted = self.buffer.try_admit(options, data, &self.waker);
         admitted.ok().map(i64::from)
@@ -89,6 +89,12 @@ impl Writer {
     pub fn set_acked_frontier(&self, frontier: Option<i64>) -> bool {
         let frontier = frontier.map(SequenceNumber::new);
         self.wakes(|buffer| buffer.set_acked_frontier(frontier))
+    }
+
+    /// The crate's call alone, with no waiter registered.
+    pub fn store_acked_frontier(&self, frontier: Option<i64>) {
+        let frontier = frontier.map(SequenceNumber::new);
+        self.buffer.set_acked_frontier(frontier);
     }
 
     pub fn set_sent_frontier(&self, frontier: i64) -> bool {
@@ -118,7 +124,7 @@ impl Writer {
     }
 
     /// The bytes, after a look that the sample carries its own number.
-    pub fn get_by_sn(&self, number: i64) -> Option<Vec<u8>> {
+    pub fn get_by_sn(&self, number: i64) -> Option<Arc<[u8]>> {
         let change = self.buffer.get_by_sn(SequenceNumber::new(number))?;
         assert_eq!(i64::from(change.sequence_number), number);
         Some(change.data_value.0)

@@ -125,7 +125,7 @@ impl OracleWriter {
             last,
             first,
             bytes: fetched_numbers(first, last, probe)
-                .map(|n| self.0.get_by_sn(n))
+                .map(|n| self.0.get_by_sn(n).map(|bytes| bytes.to_vec()))
                 .collect(),
             acked_through: asked_numbers(last, probe).map(acked_through).collect(),
         }

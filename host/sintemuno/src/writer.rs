@@ -74,9 +74,11 @@ impl Writer {
         Ok(&self.proxies[self.place(id)?])
     }
 
+    /// Where the reader's record is. A plain search, since the list is this
+    /// writer's own; the library's lookup would check it whole.
     fn place(&self, id: u64) -> Result<usize> {
-        let (place, _) = self.list.matched_reader_lookup(id)?;
-        Ok(place)
+        let place = self.list.slots().iter().position(|head| head.id == id);
+        place.filter(|_| id != 0).ok_or(Refusal::Reader)
     }
 
     fn last(&self) -> SequenceNumber {
