@@ -2,9 +2,12 @@
 pub mod Plain
 pub mod Lent
 pub mod LentTwo
+pub mod On
 pub mod Places
 pub mod Fold0
 pub mod Fold1
+pub mod FoldFrom
+pub mod FoldBack
 pub mod Walk1
 pub mod Whole0
 pub mod Whole1

@@ -317,7 +317,7 @@ module _ {M : Type 1} (𝓤 : URA M) where
 
 module _ {M : Type 1} {𝓤 : URA M} {H : Heap 𝓤} {A : Atoms 𝓤} {K : Type 0} {W : Given 𝓤 H A} {Γ : List (Item 𝓤)} {E : Env 𝓤 H} {C : Calls 𝓤 H} {Λ : Loops 𝓤 H} {q : Post 𝓤 H} {d : Place} {rest : Body} where
   -- the result is written out
-  written-out : (Q : Cell) (r r₀ : Q .Den) (v : Val) → shadow (Q .own r (v ∷ [])) → r ≡ r₀ → (Ok Q r₀ → Seq K W Γ (lands C Λ E d (Q .val r₀) rest q)) → Seq K W Γ (lands C Λ E d v rest q)
+  pub written-out : (Q : Cell) (r r₀ : Q .Den) (v : Val) → shadow (Q .own r (v ∷ [])) → r ≡ r₀ → (Ok Q r₀ → Seq K W Γ (lands C Λ E d (Q .val r₀) rest q)) → Seq K W Γ (lands C Λ E d v rest q)
   written-out Q r r₀ v is e k =
       subst (λ (u : Val). Seq K W Γ (lands C Λ E d u rest q)) (sym (ap only (Q .tells r (v ∷ []) is) ∙ ap (Q .val) e))
       (k (subst (λ (z : Q .Den). shadow (Q .own z (Q .val z ∷ []))) e (subst (λ (vs : List Val). shadow (Q .own r vs)) (Q .tells r (v ∷ []) is) is)))

@@ -20,7 +20,7 @@ use Rattle.reader_list.specs.declared.calls.Front.{Front}
 use Rattle.reader_list.specs.declared.ends.Put.{Put}
 use Rattle.reader_list.specs.declared.walk.Ask.{Ask}
 use Rattle.reader_list.specs.declared.walk.Seen.{Seen}
-use Rattle.reader_list.specs.Readers.{frontier, placeOf, isThere}
+use Rattle.reader_list.specs.Readers.{frontier, placeOf, isThere, different}
 use Rattle.reader_list.specs.Slots.{readers, isCoherent, freeSlot, frontierAt, listed, unknown, capAllowed, frontOf, foundOf, matchRows, matchOf, departOf, ackOf}
 use Rattle.reader_list.specs.Walk.{begun, seenStep, isWhole, isFound, hasFree, askFront, askFor, askMatch, askAcked, frontEnd, foundEnd, nowhere, matchEnd, departEnd, ackedEnd}
 use Rattle.reader_list.proofs.Gather.{whole-is, few-of, at-is, head-is, free-is, front-is, found-is, room-is, asked}
@@ -42,7 +42,7 @@ not-coherent false r e f r′ e′ f′ u d d′ = refl
 
 module _ (a : Ask) (hs : List ReaderHead) where
   abbrev t : Seen
-  t = foldl seenStep (begun a) hs
+  t = foldl seenStep (begun a (different (readers hs))) hs
 
   -- what an answer is made of: whether the list is coherent, what was found, and what was asked; where it isn't coherent, what was found doesn't count
   module _ {A : Type 0} (F : Bool → Bool → Bool → ℕ → ReaderHead → ℕ → ℕ → Ask → A) where
@@ -61,9 +61,9 @@ module _ (a : Ask) (hs : List ReaderHead) where
         go : (c : Bool) → isCoherent hs ≡ c → seen ≡ listedAs
         go true e =
             let few = few-of a hs e in
-            λ i. F (whole-is a hs i) (found-is a hs few i) (room-is a hs few i) (at-is a hs few i) (head-is a hs few i) (free-is a hs few i) (front-is a hs few i) (asked hs (begun a) i)
+            λ i. F (whole-is a hs i) (found-is a hs few i) (room-is a hs few i) (at-is a hs few i) (head-is a hs few i) (free-is a hs few i) (front-is a hs few i) (asked hs (begun a (different (readers hs))) i)
         go false e =
-            (λ i. F ((whole-is a hs ∙ e) i) (isFound t) (hasFree t) (t .at) (t .head) (t .free) (t .front) (asked hs (begun a) i))
+            (λ i. F ((whole-is a hs ∙ e) i) (isFound t) (hasFree t) (t .at) (t .head) (t .free) (t .front) (asked hs (begun a (different (readers hs))) i))
             ∙ blind (isFound t) (isThere (a .id) (readers hs)) (hasFree t) (isThere 0 (readers hs)) (t .at) (placeOf (a .id) (readers hs)) (t .head) (getD hs (placeOf (a .id) (readers hs)) freeSlot) (t .free) (placeOf 0 (readers hs)) (t .front) (frontier (readers hs))
             ∙ ap (λ (c : Bool). F c (isThere (a .id) (readers hs)) (isThere 0 (readers hs)) (placeOf (a .id) (readers hs)) (getD hs (placeOf (a .id) (readers hs)) freeSlot) (placeOf 0 (readers hs)) (frontier (readers hs)) a) (sym e)
 
@@ -89,25 +89,25 @@ ackedBy w f r m h n k q =
 
 -- ---- each call
 module _ (hs : List ReaderHead) where
-  pub front-answers : frontEnd (foldl seenStep askFront hs) ≡ frontOf hs
-  front-answers = answered (askFront .ask) hs frontBy (λ b b′ c c′ m m′ h h′ n n′ k k′. refl)
+  pub front-answers : frontEnd (foldl seenStep (askFront (different (readers hs))) hs) ≡ frontOf hs
+  front-answers = answered (askFront (different (readers hs)) .ask) hs frontBy (λ b b′ c c′ m m′ h h′ n n′ k k′. refl)
 
-  pub found-answers : (i : ℕ) → foundEnd (foldl seenStep (askFor i) hs) ≡ foundOf hs i
-  found-answers i = answered (askFor i .ask) hs foundBy (λ b b′ c c′ m m′ h h′ n n′ k k′. refl)
+  pub found-answers : (i : ℕ) → foundEnd (foldl seenStep (askFor i (different (readers hs))) hs) ≡ foundOf hs i
+  found-answers i = answered (askFor i (different (readers hs)) .ask) hs foundBy (λ b b′ c c′ m m′ h h′ n n′ k k′. refl)
 
   module _ (few : length hs < 2 ^ 64) where
-    pub match-gives : (m : Match) → Gives1 (matchEnd (foldl seenStep (askMatch m) hs) .answer) (set hs (matchEnd (foldl seenStep (askMatch m) hs) .at) (matchEnd (foldl seenStep (askMatch m) hs) .head)) (matchOf hs m)
+    pub match-gives : (m : Match) → Gives1 (matchEnd (foldl seenStep (askMatch m (different (readers hs))) hs) .answer) (set hs (matchEnd (foldl seenStep (askMatch m (different (readers hs))) hs) .at) (matchEnd (foldl seenStep (askMatch m (different (readers hs))) hs) .head)) (matchOf hs m)
     match-gives m =
-        put-gives hs few (matchRows hs m) (placeOf 0 (readers hs)) (record { id = m .id; reliable = m .reliable; acked = numberAt 0 }) (matchEnd (foldl seenStep (askMatch m) hs))
-        (answered (askMatch m .ask) hs matchBy (λ b b′ c c′ x x′ h h′ n n′ k k′. not-coherent (not (capAllowed (m .cap))) false (eqb (m .id) 0 || b) (not c) false (eqb (m .id) 0 || b′) (not c′) nowhere _ _))
+        put-gives hs few (matchRows hs m) (placeOf 0 (readers hs)) (record { id = m .id; reliable = m .reliable; acked = numberAt 0 }) (matchEnd (foldl seenStep (askMatch m (different (readers hs))) hs))
+        (answered (askMatch m (different (readers hs)) .ask) hs matchBy (λ b b′ c c′ x x′ h h′ n n′ k k′. not-coherent (not (capAllowed (m .cap))) false (eqb (m .id) 0 || b) (not c) false (eqb (m .id) 0 || b′) (not c′) nowhere _ _))
 
-    pub depart-gives : (i : ℕ) → Gives1 (departEnd (foldl seenStep (askFor i) hs) .answer) (set hs (departEnd (foldl seenStep (askFor i) hs) .at) (departEnd (foldl seenStep (askFor i) hs) .head)) (departOf hs i)
+    pub depart-gives : (i : ℕ) → Gives1 (departEnd (foldl seenStep (askFor i (different (readers hs))) hs) .answer) (set hs (departEnd (foldl seenStep (askFor i (different (readers hs))) hs) .at) (departEnd (foldl seenStep (askFor i (different (readers hs))) hs) .head)) (departOf hs i)
     depart-gives i =
-        put-gives hs few (listed false (isCoherent hs) false (unknown i (readers hs)) false) (placeOf i (readers hs)) freeSlot (departEnd (foldl seenStep (askFor i) hs))
-        (answered (askFor i .ask) hs departBy (λ b b′ c c′ m m′ h h′ n n′ k k′. refl))
+        put-gives hs few (listed false (isCoherent hs) false (unknown i (readers hs)) false) (placeOf i (readers hs)) freeSlot (departEnd (foldl seenStep (askFor i (different (readers hs))) hs))
+        (answered (askFor i (different (readers hs)) .ask) hs departBy (λ b b′ c c′ m m′ h h′ n n′ k k′. refl))
 
-    pub acked-gives : (a : Acked) → Gives1 (ackedEnd (foldl seenStep (askAcked a) hs) .answer) (set hs (ackedEnd (foldl seenStep (askAcked a) hs) .at) (ackedEnd (foldl seenStep (askAcked a) hs) .head)) (ackOf hs a)
+    pub acked-gives : (a : Acked) → Gives1 (ackedEnd (foldl seenStep (askAcked a (different (readers hs))) hs) .answer) (set hs (ackedEnd (foldl seenStep (askAcked a (different (readers hs))) hs) .at) (ackedEnd (foldl seenStep (askAcked a (different (readers hs))) hs) .head)) (ackOf hs a)
     acked-gives a =
         put-gives hs few (listed false (isCoherent hs) (negative (a .acked)) (unknown (a .id) (readers hs)) false) (placeOf (a .id) (readers hs))
-        (record { id = a .id; reliable = getD hs (placeOf (a .id) (readers hs)) freeSlot .reliable; acked = a .acked }) (ackedEnd (foldl seenStep (askAcked a) hs))
-        (answered (askAcked a .ask) hs ackedBy (λ b b′ c c′ m m′ h h′ n n′ k k′. refl))
+        (record { id = a .id; reliable = getD hs (placeOf (a .id) (readers hs)) freeSlot .reliable; acked = a .acked }) (ackedEnd (foldl seenStep (askAcked a (different (readers hs))) hs))
+        (answered (askAcked a (different (readers hs)) .ask) hs ackedBy (λ b b′ c c′ m m′ h h′ n n′ k k′. refl))

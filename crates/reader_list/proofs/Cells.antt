@@ -16,6 +16,10 @@ use Rattle.reader_list.proofs.arrays.Changed2 as Changed2′
 use Rattle.reader_list.proofs.arrays.Changed2.Laws as Changed2″
 use Rattle.reader_list.proofs.walk.Seen as Seen′
 use Rattle.reader_list.proofs.walk.Seen.Laws as Seen″
+use Rattle.reader_list.proofs.ids.Sought as Sought′
+use Rattle.reader_list.proofs.ids.Sought.Laws as Sought″
+use Rattle.reader_list.proofs.ids.Met as Met′
+use Rattle.reader_list.proofs.ids.Met.Laws as Met″
 use Rattle.reader_list.proofs.calls.Match as Match′
 use Rattle.reader_list.proofs.calls.Match.Laws as Match″
 use Rattle.reader_list.proofs.calls.Acked as Acked′
@@ -35,6 +39,12 @@ answer = declared Answer′.the-type Answer″.the-laws Answer″.the-plain Answ
 
 abbrev pub seen : Cell
 seen = declared Seen′.the-type Seen″.the-laws Seen″.the-plain Seen″.the-copy
+
+abbrev pub sought : Cell
+sought = declared Sought′.the-type Sought″.the-laws Sought″.the-plain Sought″.the-copy
+
+abbrev pub met : Cell
+met = declared Met′.the-type Met″.the-laws Met″.the-plain Met″.the-copy
 
 abbrev pub asked-match : Cell
 asked-match = declared Match′.the-type Match″.the-laws Match″.the-plain Match″.the-copy

@@ -2,13 +2,11 @@
 use Prim.Native.Nat.{ℕ, zero, suc, _+_, _-_, _<_, _≤_, min, max}
 use mathlib.Core.Path.{_≡_, refl, sym, ap, subst, _∙_}
 use mathlib.Core.Bool.{Bool, true, false, not, cond, _&&_, _||_}
-use mathlib.Core.List.{List, [], _∷_, _++_, foldl, append-assoc, append-nil}
+use mathlib.Core.List.{List, [], _∷_, foldl}
 use native.Mathlib.Nat.{add-zero, zero-add}
-use native.Mathlib.Numerals.{add-one}
 use native.Mathlib.Omega.{arith}
 use lib.Dec.{ltb, leb, eqb}
-use lib.ListN.{length, take, getD, set, length-set, length-replicate}
-use lib.Seq.{take-suc-set}
+use lib.ListN.{length, getD}
 use borrow.Author.Tests.{lt-ltb, le-ltb, ltb-true, ltb-false, leb-true, leb-false}
 use Rattle.sets.proofs.Bools.{and-assoc, and-yes, and-left, and-right}
 use Rattle.numbers.specs.Number.{rankOf}
@@ -17,21 +15,7 @@ use Rattle.reader_list.specs.declared.walk.Ask.{Ask}
 use Rattle.reader_list.specs.declared.walk.Seen.{Seen}
 use Rattle.reader_list.specs.Readers.{Head, meet, frontier, placeOf, isThere, slotFits, slotsFit, different}
 use Rattle.reader_list.specs.Slots.{headOf, readers, isCoherent, freeSlot}
-use Rattle.reader_list.specs.Walk.{isIn, distinct, begun, counted, seenStep, isWhole, isFound, hasFree}
-use Rattle.reader_list.proofs.Ids.{and-false}
-
--- ---- the ids
-abbrev pub idsOf : List ReaderHead → List ℕ
-idsOf [] = []
-idsOf (h ∷ hs) = h .id ∷ idsOf hs
-
-in-ids : (i : ℕ) (hs : List ReaderHead) → isIn i (idsOf hs) ≡ isThere i (readers hs)
-in-ids i [] = refl
-in-ids i (h ∷ hs) = ap (λ (b : Bool). eqb (h .id) i || b) (in-ids i hs)
-
-distinct-ids : (hs : List ReaderHead) → distinct (idsOf hs) ≡ different (readers hs)
-distinct-ids [] = refl
-distinct-ids (h ∷ hs) = λ k. (eqb (h .id) 0 || not (in-ids (h .id) hs k)) && distinct-ids hs k
+use Rattle.reader_list.specs.Walk.{begun, counted, seenStep, isWhole, isFound, hasFree}
 
 pub length-readers : (hs : List ReaderHead) → length (readers hs) ≡ length hs
 length-readers [] = refl
@@ -53,7 +37,12 @@ place-there i (h ∷ hs) = go (eqb (h .id) i) (place-there i hs)
     go true e = lt-ltb 0 (suc (length hs)) (omega arith)
     go false e = less-suc (placeOf i hs) (length hs) ∙ e
 
--- ---- the frontier of three
+-- ---- the frontier of two, and of three
+pub meet-is : (a b : ℕ) → (a ≡ 0 → ⊥) → 1 ≤ b → meet a b ≡ min a b
+meet-is zero b n h = absurd (n refl)
+meet-is (suc a) zero n h = absurd (omega arith)
+meet-is (suc a) (suc b) n h = refl
+
 pub meet-assoc : (a b c : ℕ) → meet (meet a b) c ≡ meet a (meet b c)
 meet-assoc zero b c = refl
 meet-assoc (suc a) zero c = refl
@@ -73,35 +62,24 @@ meet-assoc (suc a) (suc b) (suc c) = go (min (suc a) (suc b)) (min (suc b) (suc 
 pub record Gathered (s : Seen) (hs : List ReaderHead) (t : Seen) : Type 0 where
   pub count : t .count ≡ s .count + length hs
   pub clean : t .clean ≡ (s .clean && slotsFit (readers hs))
-  pub ids : take (s .count + length hs) (t .ids) ≡ take (s .count) (s .ids) ++ idsOf hs
+  pub different : t .different ≡ s .different
   pub found : s .at < s .count → (t .at ≡ s .at) × (t .head ≡ s .head)
   pub sought : s .at ≡ s .count → (t .at ≡ s .count + placeOf (s .ask .id) (readers hs)) × (t .head ≡ getD hs (placeOf (s .ask .id) (readers hs)) (s .head))
   pub had : s .free < s .count → t .free ≡ s .free
   pub wanted : s .free ≡ s .count → t .free ≡ s .count + placeOf 0 (readers hs)
   pub front : t .front ≡ meet (s .front) (frontier (readers hs))
 
-module _ (s : Seen) (h : ReaderHead) (hs : List ReaderHead) (long : length (s .ids) ≡ 64) (few : s .count + length (h ∷ hs) ≤ 64) where
+module _ (s : Seen) (h : ReaderHead) (hs : List ReaderHead) (few : s .count + length (h ∷ hs) ≤ 64) where
   abbrev s′ : Seen
   s′ = seenStep s h
 
   on : counted (s .count) ≡ s .count + 1
   on = rw (lt-ltb (s .count) 65 (omega arith))
 
-  stored : s′ .ids ≡ set (s .ids) (s .count) (h .id)
-  stored = rw (lt-ltb (s .count) 64 (omega arith))
-
   more : (n : ℕ) → s .count + 1 + n ≡ s .count + suc n
   more n = omega arith
 
   module _ (t : Seen) (g : Gathered s′ hs t) where
-    ids-on : take (s .count + length (h ∷ hs)) (t .ids) ≡ take (s .count) (s .ids) ++ idsOf (h ∷ hs)
-    ids-on =
-        let k : s .count < length (s .ids) = omega arith in
-        ap (λ (n : ℕ). take n (t .ids)) (sym (more (length hs)) ∙ ap (λ (n : ℕ). n + length hs) (sym on))
-        ∙ g .ids
-        ∙ ap (λ (l : List ℕ). l ++ idsOf hs) ((λ i. take (on i) (stored i)) ∙ ap (λ (n : ℕ). take n (set (s .ids) (s .count) (h .id))) (add-one (s .count)) ∙ take-suc-set (s .ids) (s .count) (h .id) k)
-        ∙ append-assoc (take (s .count) (s .ids)) (h .id ∷ []) (idsOf hs)
-
     front-on : t .front ≡ meet (s .front) (frontier (readers (h ∷ hs)))
     front-on = g .front ∙ go (h .reliable)
       where
@@ -162,7 +140,7 @@ module _ (s : Seen) (h : ReaderHead) (hs : List ReaderHead) (long : length (s .i
         record {
           count = g .count ∙ ap (λ (n : ℕ). n + length hs) on ∙ more (length hs);
           clean = g .clean ∙ and-assoc (s .clean) (slotFits (headOf h)) (slotsFit (readers hs));
-          ids = ids-on;
+          different = g .different;
           found = found-on;
           sought = sought-on;
           had = had-on;
@@ -170,12 +148,12 @@ module _ (s : Seen) (h : ReaderHead) (hs : List ReaderHead) (long : length (s .i
           front = front-on;
         }
 
-gathered : (hs : List ReaderHead) (s : Seen) → length (s .ids) ≡ 64 → s .count + length hs ≤ 64 → Gathered s hs (foldl seenStep s hs)
-gathered [] s long few =
+gathered : (hs : List ReaderHead) (s : Seen) → s .count + length hs ≤ 64 → Gathered s hs (foldl seenStep s hs)
+gathered [] s few =
     record {
       count = sym (add-zero (s .count));
       clean = sym (and-yes (s .clean));
-      ids = ap (λ (n : ℕ). take n (s .ids)) (add-zero (s .count)) ∙ sym (append-nil (take (s .count) (s .ids)));
+      different = refl;
       found = λ l. (refl, refl);
       sought = λ e. (e ∙ sym (add-zero (s .count)), refl);
       had = λ l. refl;
@@ -186,13 +164,9 @@ gathered [] s long few =
     meet-none : (a : ℕ) → meet a 0 ≡ a
     meet-none zero = refl
     meet-none (suc a) = refl
-gathered (h ∷ hs) s long few =
-    gathered-on s h hs long few (foldl seenStep (seenStep s h) hs)
-    (gathered hs (seenStep s h) (still (ltb (s .count) 64)) (rw (on s h hs long few) (omega (arith, more s h hs long few (length hs)))))
-  where
-    still : (b : Bool) → length (cond b (set (s .ids) (s .count) (h .id)) (s .ids)) ≡ 64
-    still true = length-set (s .ids) (s .count) (h .id) ∙ long
-    still false = long
+gathered (h ∷ hs) s few =
+    gathered-on s h hs few (foldl seenStep (seenStep s h) hs)
+    (gathered hs (seenStep s h) (rw (on s h hs few) (omega (arith, more s h hs few (length hs)))))
 
 -- ---- more than 64 slots
 counted-most : (n : ℕ) → n ≤ 65 → counted n ≤ 65
@@ -220,12 +194,15 @@ asked (h ∷ hs) s = asked hs (seenStep s h)
 
 -- ---- the whole walk
 module _ (a : Ask) (hs : List ReaderHead) where
+  abbrev start : Seen
+  start = begun a (different (readers hs))
+
   abbrev end : Seen
-  end = foldl seenStep (begun a) hs
+  end = foldl seenStep start hs
 
   module _ (few : length hs ≤ 64) where
-    g : Gathered (begun a) hs end
-    g = gathered hs (begun a) (length-replicate {A = ℕ} 64 0) (rw zero-add few)
+    g : Gathered start hs end
+    g = gathered hs start (rw zero-add few)
 
     count-is : end .count ≡ length hs
     count-is = g .count ∙ zero-add (length hs)
@@ -233,8 +210,7 @@ module _ (a : Ask) (hs : List ReaderHead) where
     whole-few : isWhole end ≡ isCoherent hs
     whole-few =
         let n : length (readers hs) ≡ length hs = length-readers hs in
-        let d : distinct (take (end .count) (end .ids)) ≡ different (readers hs) = ap (λ (k : ℕ). distinct (take k (end .ids))) (g .count) ∙ ap distinct (g .ids) ∙ distinct-ids hs in
-        λ i. leb 1 ((count-is ∙ sym n) i) && (leb ((count-is ∙ sym n) i) 64 && (g .clean i && d i))
+        λ i. leb 1 ((count-is ∙ sym n) i) && (leb ((count-is ∙ sym n) i) 64 && (g .clean i && g .different i))
 
     pub at-is : end .at ≡ placeOf (a .id) (readers hs)
     at-is = g .sought refl .0 ∙ zero-add (placeOf (a .id) (readers hs))
@@ -254,6 +230,10 @@ module _ (a : Ask) (hs : List ReaderHead) where
     pub room-is : hasFree end ≡ isThere 0 (readers hs)
     room-is = (λ i. ltb (free-is i) ((count-is ∙ sym (length-readers hs)) i)) ∙ place-there 0 (readers hs)
 
+  and-false : (b : Bool) → false ≡ (b && false)
+  and-false true = refl
+  and-false false = refl
+
   pub whole-is : isWhole end ≡ isCoherent hs
   whole-is = go (leb (length hs) 64) refl
     where
@@ -261,7 +241,7 @@ module _ (a : Ask) (hs : List ReaderHead) where
       go true e = whole-few (leb-true (length hs) 64 e)
       go false e =
           let k = leb-false (length hs) 64 e in
-          let c : end .count ≡ 65 = many hs (begun a) (omega arith) ∙ omega (arith, zero-add (length hs)) in
+          let c : end .count ≡ 65 = many hs start (omega arith) ∙ omega (arith, zero-add (length hs)) in
           let l : leb (length (readers hs)) 64 ≡ false = ap (λ (n : ℕ). leb n 64) (length-readers hs) ∙ e in
           rw (c, l) (and-false (leb 1 (length (readers hs))))
 

@@ -1,5 +1,5 @@
 -- Laws that belong to no one function.
-pub mod Ids
+pub mod Alone
 pub mod Gather
 pub mod Answers
 pub mod Cells

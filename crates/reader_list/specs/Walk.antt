@@ -1,9 +1,10 @@
 -- What one walk over the list gathers, slot by slot. Assumes nothing.
-use Prim.Native.Nat.{ℕ, _+_, max}
+use Prim.Native.Nat.{ℕ, _+_, _*_, _^_, _%_, max}
 use mathlib.Core.Bool.{Bool, true, false, not, cond, _&&_, _||_}
 use mathlib.Core.List.{List, [], _∷_}
+use lib.Bits.{bitOr}
 use lib.Dec.{ltb, leb, eqb}
-use lib.ListN.{set, take, replicate}
+use lib.ListN.{drop}
 use Rattle.numbers.specs.Number.{rankOf, negative, numberAt}
 use Rattle.numbers.specs.Refusals.{unless, done}
 use Rattle.numbers.specs.declared.answer.Answer.{Answer}
@@ -15,21 +16,53 @@ use Rattle.reader_list.specs.declared.calls.Front.{Front}
 use Rattle.reader_list.specs.declared.ends.Put.{Put}
 use Rattle.reader_list.specs.declared.walk.Ask.{Ask}
 use Rattle.reader_list.specs.declared.walk.Seen.{Seen}
-use Rattle.reader_list.specs.Readers.{meet, slotFits}
-use Rattle.reader_list.specs.Slots.{headOf, freeSlot, frontierAt, listed, capAllowed}
+use Rattle.reader_list.specs.declared.ids.Sought.{Sought}
+use Rattle.reader_list.specs.declared.ids.Met.{Met}
+use Rattle.reader_list.specs.Readers.{meet, isThere, slotFits}
+use Rattle.reader_list.specs.Slots.{headOf, readers, freeSlot, frontierAt, listed, capAllowed}
 
--- the ids, all different but for the free slots' 0
-abbrev pub isIn : ℕ → List ℕ → Bool
-isIn i [] = false
-isIn i (x ∷ xs) = eqb x i || isIn i xs
+-- WHETHER THE IDS ARE ALL DIFFERENT, from the last slot to the first
 
-abbrev pub distinct : List ℕ → Bool
-distinct [] = true
-distinct (x ∷ xs) = (eqb x 0 || not (isIn x xs)) && distinct xs
+-- whether a slot is free, or none from a place on has its id: slot by slot
+abbrev pub soughtFor : ReaderHead → Sought
+soughtFor h = record { id = h .id; found = false }
+
+abbrev pub soughtOn : Sought → ReaderHead → Sought
+soughtOn s h = record { id = s .id; found = s .found || eqb (h .id) (s .id) }
+
+abbrev pub aloneEnd : Sought → Bool
+aloneEnd s = eqb (s .id) 0 || not (s .found)
+
+abbrev pub alone : List ReaderHead → ReaderHead → Bool
+alone hs h = eqb (h .id) 0 || not (isThere (h .id) (readers hs))
+
+abbrev pub aloneFrom : List ReaderHead → ℕ → ReaderHead → Bool
+aloneFrom hs from h = alone (drop from hs) h
+
+-- nothing is met yet
+abbrev pub noneMet : Met
+noneMet = record { low = 0; again = false; fine = true }
+
+-- the low six bits of an id, as one bit of a word
+abbrev pub lowBit : ℕ → ℕ
+lowBit i = 1 * 2 ^ (i % 64) % 18446744073709551616
+
+-- one slot: where its bit is there already, one with its id may be there too
+abbrev pub meetSlot : Met → ReaderHead → Met
+meetSlot m h = record { low = bitOr (m .low) (lowBit (h .id)); again = eqb (bitOr (m .low) (lowBit (h .id))) (m .low); fine = m .fine }
+
+-- where to look from: past the end, where none can be there
+abbrev pub startOf : Met → ℕ → ℕ
+startOf m next = cond (m .again) next 18446744073709551615
+
+abbrev pub toldAlone : Met → Bool → Met
+toldAlone m alone = record { low = m .low; again = m .again; fine = m .fine && alone }
+
+-- THE WALK
 
 -- before the first slot
-abbrev pub begun : Ask → Seen
-begun a = record { ids = replicate 64 0; count = 0; clean = true; at = 0; head = freeSlot; free = 0; front = 0; ask = a }
+abbrev pub begun : Ask → Bool → Seen
+begun a different = record { different = different; count = 0; clean = true; at = 0; head = freeSlot; free = 0; front = 0; ask = a }
 
 -- one slot more; past 64 it is enough to know that there are more
 abbrev pub counted : ℕ → ℕ
@@ -42,7 +75,7 @@ placed at n hit = cond (ltb at n) at (cond hit at (counted n))
 abbrev pub seenStep : Seen → ReaderHead → Seen
 seenStep s h =
     record {
-      ids = cond (ltb (s .count) 64) (set (s .ids) (s .count) (h .id)) (s .ids);
+      different = s .different;
       count = counted (s .count);
       clean = s .clean && slotFits (headOf h);
       at = placed (s .at) (s .count) (eqb (h .id) (s .ask .id));
@@ -54,7 +87,7 @@ seenStep s h =
 
 -- what is known at the end
 abbrev pub isWhole : Seen → Bool
-isWhole s = leb 1 (s .count) && (leb (s .count) 64 && (s .clean && distinct (take (s .count) (s .ids))))
+isWhole s = leb 1 (s .count) && (leb (s .count) 64 && (s .clean && s .different))
 
 abbrev pub isFound : Seen → Bool
 isFound s = ltb (s .at) (s .count)
@@ -64,17 +97,17 @@ hasFree s = ltb (s .free) (s .count)
 
 -- WHAT A CALL ASKS
 
-abbrev pub askFront : Seen
-askFront = begun (record { id = 0; reliable = false; acked = numberAt 0; cap = 0 })
+abbrev pub askFront : Bool → Seen
+askFront different = begun (record { id = 0; reliable = false; acked = numberAt 0; cap = 0 }) different
 
-abbrev pub askFor : ℕ → Seen
-askFor i = begun (record { id = i; reliable = false; acked = numberAt 0; cap = 0 })
+abbrev pub askFor : ℕ → Bool → Seen
+askFor i different = begun (record { id = i; reliable = false; acked = numberAt 0; cap = 0 }) different
 
-abbrev pub askMatch : Match → Seen
-askMatch m = begun (record { id = m .id; reliable = m .reliable; acked = numberAt 0; cap = m .cap })
+abbrev pub askMatch : Match → Bool → Seen
+askMatch m different = begun (record { id = m .id; reliable = m .reliable; acked = numberAt 0; cap = m .cap }) different
 
-abbrev pub askAcked : Acked → Seen
-askAcked a = begun (record { id = a .id; reliable = false; acked = a .acked; cap = 0 })
+abbrev pub askAcked : Acked → Bool → Seen
+askAcked a different = begun (record { id = a .id; reliable = false; acked = a .acked; cap = 0 }) different
 
 -- AND WHAT IS ANSWERED
 

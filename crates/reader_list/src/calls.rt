@@ -1,4 +1,4 @@
-// The calls on a lent list: one walk each, and at most one slot is stored.
+// The calls on a lent list: whether its ids are all different, then one walk, and at most one slot is stored.
 ghost use mathlib.Core.Path.{_≡_};
 ghost use Rattle.numbers.specs.Promise.{Gives1};
 ghost use Rattle.reader_list.specs.Slots.{frontOf, foundOf, matchOf, departOf, ackOf};
@@ -13,6 +13,7 @@ use crate::ends::front_end;
 use crate::ends::match_end;
 use crate::heads::AckedFrontier;
 use crate::heads::ReaderHead;
+use crate::ids::are_different;
 use crate::walk::see;
 use numbers::Answer;
 use numbers::SequenceNumber;
@@ -54,7 +55,8 @@ pub struct Front {
 pub fn frontier(list: &[ReaderHead]) -> Front
     ensures { λ r. ⌜ r ≡ frontOf (now (list .entry)) ⌝ }
 {
-    let mut acc = ask_front();
+    let different = are_different(list);
+    let mut acc = ask_front(different);
     let mut i = 0;
     while i < list.len() {
         acc = see(acc, list[i]);
@@ -66,7 +68,8 @@ pub fn frontier(list: &[ReaderHead]) -> Front
 pub fn matched_reader_lookup(list: &[ReaderHead], id: u64) -> Found
     ensures { λ r. ⌜ r ≡ foundOf (now (list .entry)) id ⌝ }
 {
-    let mut acc = ask_for(id);
+    let different = are_different(list);
+    let mut acc = ask_for(id, different);
     let mut i = 0;
     while i < list.len() {
         acc = see(acc, list[i]);
@@ -79,7 +82,8 @@ pub fn matched_reader_lookup(list: &[ReaderHead], id: u64) -> Found
 pub fn matched_reader_add(list: &mut [ReaderHead], m: Match) -> Answer
     ensures { λ r. ⌜ Gives1 r (now (list .exit)) (matchOf (now (list .entry)) m) ⌝ }
 {
-    let mut acc = ask_match(m);
+    let different = are_different(list);
+    let mut acc = ask_match(m, different);
     let mut i = 0;
     while i < list.len() {
         acc = see(acc, list[i]);
@@ -97,7 +101,8 @@ pub fn matched_reader_add(list: &mut [ReaderHead], m: Match) -> Answer
 pub fn matched_reader_remove(list: &mut [ReaderHead], id: u64) -> Answer
     ensures { λ r. ⌜ Gives1 r (now (list .exit)) (departOf (now (list .entry)) id) ⌝ }
 {
-    let mut acc = ask_for(id);
+    let different = are_different(list);
+    let mut acc = ask_for(id, different);
     let mut i = 0;
     while i < list.len() {
         acc = see(acc, list[i]);
@@ -115,7 +120,8 @@ pub fn matched_reader_remove(list: &mut [ReaderHead], id: u64) -> Answer
 pub fn set_acked(list: &mut [ReaderHead], a: Acked) -> Answer
     ensures { λ r. ⌜ Gives1 r (now (list .exit)) (ackOf (now (list .entry)) a) ⌝ }
 {
-    let mut acc = ask_acked(a);
+    let different = are_different(list);
+    let mut acc = ask_acked(a, different);
     let mut i = 0;
     while i < list.len() {
         acc = see(acc, list[i]);

@@ -48,46 +48,49 @@ fn put_nowhere(answer: Answer) -> Put
     }
 }
 
-pub fn ask_for(id: u64) -> Seen
-    ensures { λ r. ⌜ r ≡ askFor id ⌝ }
+pub fn ask_for(id: u64, different: bool) -> Seen
+    ensures { λ r. ⌜ r ≡ askFor id different ⌝ }
 {
     let acked = SequenceNumber::from_rank(0);
-    begin(Ask {
+    let ask = Ask {
         id,
         reliable: false,
         acked,
         cap: 0,
-    })
+    };
+    begin(ask, different)
 }
 
-pub fn ask_front() -> Seen
-    ensures { λ r. ⌜ r ≡ askFront ⌝ }
+pub fn ask_front(different: bool) -> Seen
+    ensures { λ r. ⌜ r ≡ askFront different ⌝ }
 {
-    ask_for(0)
+    ask_for(0, different)
 }
 
-pub fn ask_match(m: Match) -> Seen
-    ensures { λ r. ⌜ r ≡ askMatch m ⌝ }
+pub fn ask_match(m: Match, different: bool) -> Seen
+    ensures { λ r. ⌜ r ≡ askMatch m different ⌝ }
 {
     let acked = SequenceNumber::from_rank(0);
-    begin(Ask {
+    let ask = Ask {
         id: m.id,
         reliable: m.reliable,
         acked,
         cap: m.cap,
-    })
+    };
+    begin(ask, different)
 }
 
-pub fn ask_acked(a: Acked) -> Seen
-    ensures { λ r. ⌜ r ≡ askAcked a ⌝ }
+pub fn ask_acked(a: Acked, different: bool) -> Seen
+    ensures { λ r. ⌜ r ≡ askAcked a different ⌝ }
 {
     let acked = a.acked;
-    begin(Ask {
+    let ask = Ask {
         id: a.id,
         reliable: false,
         acked,
         cap: 0,
-    })
+    };
+    begin(ask, different)
 }
 
 pub fn front_end(s: Seen) -> Front

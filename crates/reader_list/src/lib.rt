@@ -3,6 +3,7 @@ pub mod arrays;
 pub mod calls;
 mod ends;
 pub mod heads;
+mod ids;
 mod walk;
 
 pub use arrays::Changed2;

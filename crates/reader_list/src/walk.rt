@@ -5,7 +5,7 @@ ghost use Prim.Native.Nat.{max};
 ghost use lib.Dec.{ltb};
 ghost use Rattle.reader_list.specs.Readers.{meet, slotFits};
 ghost use Rattle.reader_list.specs.Slots.{headOf, freeSlot};
-ghost use Rattle.reader_list.specs.Walk.{isIn, distinct, begun, counted, placed, seenStep, isWhole};
+ghost use Rattle.reader_list.specs.Walk.{begun, counted, placed, seenStep, isWhole};
 use crate::heads::ReaderHead;
 use crate::heads::larger;
 use numbers::SequenceNumber;
@@ -18,10 +18,10 @@ pub struct Ask {
     pub cap: u64,
 }
 
-// The ids, how many slots there are (65: more than 64), whether each is a reader's or all zeros; the place of the id asked for and what stands
-// there; the first free place; the frontier, 0 where there is none.
+// Whether the ids are all different; how many slots there are (65: more than 64), whether each is a reader's or all zeros; the place of the id
+// asked for and what stands there; the first free place; the frontier, 0 where there is none.
 pub struct Seen {
-    pub ids: [u64; 64],
+    pub different: bool,
     pub count: usize,
     pub clean: bool,
     pub at: usize,
@@ -29,34 +29,6 @@ pub struct Seen {
     pub free: usize,
     pub front: u64,
     pub ask: Ask,
-}
-
-// Whether x is one of the ids.
-fn is_in(ids: &[u64], x: u64) -> bool
-    ensures { λ r. ⌜ r ≡ isIn x (now (ids .entry)) ⌝ }
-{
-    let mut found = false;
-    let mut i = 0;
-    while i < ids.len() {
-        found = found | (ids[i] == x);
-        i += 1;
-    }
-    found
-}
-
-// Whether the ids are all different, but for those that are 0.
-fn are_distinct(ids: &[u64]) -> bool
-    ensures { λ r. ⌜ r ≡ distinct (now (ids .entry)) ⌝ }
-{
-    let mut fine = true;
-    let mut i = 0;
-    while i < ids.len() {
-        let x = ids[i];
-        i += 1;
-        let again = is_in(&ids[i..], x);
-        fine = fine & ((x == 0) | !again);
-    }
-    fine
 }
 
 fn count_on(n: usize) -> usize
@@ -128,13 +100,12 @@ pub fn free_slot() -> ReaderHead
     }
 }
 
-pub fn begin(ask: Ask) -> Seen
-    ensures { λ r. ⌜ r ≡ begun ask ⌝ }
+pub fn begin(ask: Ask, different: bool) -> Seen
+    ensures { λ r. ⌜ r ≡ begun ask different ⌝ }
 {
-    let ids = [0u64; 64];
     let head = free_slot();
     Seen {
-        ids,
+        different,
         count: 0,
         clean: true,
         at: 0,
@@ -160,10 +131,6 @@ pub fn see(s: Seen, h: ReaderHead) -> Seen
     t.head = head_on(s.at, n, h.id == ask.id, old, h);
     t.free = place_on(s.free, n, h.id == 0);
     t.front = met(s.front, h);
-    if n < ReaderHead::MOST {
-        t.ids[n] = h.id;
-        return t;
-    }
     t
 }
 
@@ -171,11 +138,6 @@ pub fn see(s: Seen, h: ReaderHead) -> Seen
 pub fn is_whole(s: Seen) -> bool
     ensures { λ r. ⌜ r ≡ isWhole s ⌝ }
 {
-    let ids = s.ids;
     let n = s.count;
-    if ReaderHead::MOST < n {
-        return false;
-    }
-    let different = are_distinct(&ids[..n]);
-    (1 <= n) & ((n <= ReaderHead::MOST) & (s.clean & different))
+    (1 <= n) & ((n <= ReaderHead::MOST) & (s.clean & s.different))
 }

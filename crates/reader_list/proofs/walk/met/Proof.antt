@@ -4,7 +4,7 @@ use mathlib.Core.Path.{_≡_, ap, _∙_}
 use native.Mathlib.Omega.{arith}
 use borrow.Author.Tests.{not-true, not-false}
 use Rattle.numbers.specs.Number.{rankOf}
-use Rattle.reader_list.proofs.Ids.{meet-is}
+use Rattle.reader_list.proofs.Gather.{meet-is}
 use borrow.Author.Needs.{needs}
 use Rattle.reader_list.proofs.walk.met.Statement.{statement}
 use Rattle.reader_list.proofs.walk.met.Tie as tie

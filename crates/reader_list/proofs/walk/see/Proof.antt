@@ -1,5 +1,4 @@
 -- `see` meets its contract. Assumes nothing.
-use borrow.Author.Tests.{lt-ltb, le-ltb}
 use borrow.Author.Needs.{needs}
 use Rattle.reader_list.proofs.walk.see.Statement.{statement}
 use Rattle.reader_list.proofs.walk.see.Tie as tie
@@ -22,17 +21,8 @@ place-on-requires-2 c κs = search needs
 met-requires : tie.Need-met-requires
 met-requires c κs = search needs
 
-mul-t : tie.Need-mul-t
-mul-t c = search needs
-
-element-write-t : tie.Need-element-write-t
-element-write-t c = search needs
-
 returns : tie.Need-returns
-returns c = rw (c .before .met .ensures, c .before .before .place-on2 .ensures, c .before .before .before .before .head-on .ensures, c .before .before .before .before .before .before .before .place-on .ensures, c .before .before .before .before .before .before .before .before .before .before .before .count-on .ensures, c .before .before .before .before .before .before .before .before .before .before .before .before .slot-fits .ensures, lt-ltb _ 64 (c .if1 .taken))
-
-returns-2 : tie.Need-returns-2
-returns-2 c = rw (c .before .met .ensures, c .before .before .place-on2 .ensures, c .before .before .before .before .head-on .ensures, c .before .before .before .before .before .before .before .place-on .ensures, c .before .before .before .before .before .before .before .before .before .before .before .count-on .ensures, c .before .before .before .before .before .before .before .before .before .before .before .before .slot-fits .ensures, le-ltb _ 64 (c .if1 .left))
+returns c = rw (c .met .ensures, c .before .place-on2 .ensures, c .before .before .before .head-on .ensures, c .before .before .before .before .before .before .place-on .ensures, c .before .before .before .before .before .before .before .before .before .before .count-on .ensures, c .before .before .before .before .before .before .before .before .before .before .before .slot-fits .ensures)
 
 pub see-spec : {M : Type 1} → statement M
 see-spec =
@@ -44,7 +34,4 @@ see-spec =
     head-on-requires
     place-on-requires-2
     met-requires
-    mul-t
-    element-write-t
-    returns
-    returns-2)
+    returns)
