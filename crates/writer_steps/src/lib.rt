@@ -1,6 +1,6 @@
 // What a server runs: the steps of the writer, each of several calls under one answer.
 pub mod acks;
-mod answers;
+pub mod answers;
 pub mod readers;
 pub mod send;
 

@@ -1,0 +1,132 @@
+// op=write: a sample is admitted, and every reader that is there is told its number.
+ghost use mathlib.Core.Path.{_≡_};
+ghost use Prim.Native.Nat.{_≤_, min};
+ghost use lib.ListN.{length};
+ghost use Rattle.numbers.specs.Promise.{Gives1, Gives2};
+ghost use Rattle.trace_run.specs.Writes.{toldTo, toldBoth, bothOk, admitPut, writtenOf, writeLine};
+use crate::state::Followed;
+use crate::state::Trace;
+use crate::state::coherence;
+use numbers::SequenceNumber;
+use reader_list::ReaderHead;
+use rtps_reader_proxy::ReaderProxy;
+use writer_send_buffer::Admitted;
+use writer_send_buffer::Limits;
+use writer_send_buffer::WriterSendBuffer;
+
+fn smaller(a: usize, b: usize) -> usize
+    ensures { λ r. ⌜ (r ≡ min a b) × ((r ≤ a) × (r ≤ b)) ⌝ }
+{
+    if a < b { a } else { b }
+}
+
+// As many slots as the rooms can have.
+fn slots_in(limits: Limits) -> usize
+    ensures { λ r. ⌜ (r ≡ min (limits .slots) 256) × (r ≤ 256) ⌝ }
+{
+    smaller(limits.slots as usize, 256)
+}
+
+// Admitted into as much of the rooms as the slots take.
+fn admitted_in(
+    flow: WriterSendBuffer,
+    payload: &[u8],
+    store: &mut [u8],
+    large: &mut [u64],
+) -> Admitted
+    requires { ⌜ (length (now store) ≡ 4096) × (length (now large) ≡ 4352) ⌝ }
+    ensures { λ r. ⌜ Gives2 r (now (store .exit)) (now (large .exit)) (admitPut flow (now (payload .entry)) (now (store .entry)) (now (large .entry))) ⌝ }
+{
+    let start = 0;
+    let slots = slots_in(flow.limits);
+    let end = 16 * slots;
+    flow.with_sample(
+        &mut store[start..end],
+        &mut large[start..slots],
+        payload,
+        false,
+    )
+}
+
+// A reader's head as it is told of a number; a free slot is not told.
+fn told(head: ReaderHead, proxy: ReaderProxy, unsent: &mut [u64], n: SequenceNumber) -> ReaderProxy
+    ensures { λ r. ⌜ Gives1 r (now (unsent .exit)) (toldTo head n proxy (now (unsent .entry))) ⌝ }
+{
+    if head.id == 0 {
+        return proxy;
+    }
+    proxy.notify_new_cache_change(unsent, n).proxy
+}
+
+impl Trace {
+    // Whether the unsent numbers of both readers are coherent.
+    fn both_ok(self, large: &[u64]) -> bool
+        requires { ⌜ length (now large) ≡ 4352 ⌝ }
+        ensures { λ r. ⌜ r ≡ bothOk self (now (large .entry)) ⌝ }
+    {
+        let one = self.one;
+        let two = self.two;
+        let a = 256;
+        let b = 1280;
+        let e = 2304;
+        one.unsent_ok(&large[a..b]) & two.unsent_ok(&large[b..e])
+    }
+
+    // Both readers told.
+    fn told_both(self, large: &mut [u64], n: SequenceNumber) -> Trace
+        requires { ⌜ length (now large) ≡ 4352 ⌝ }
+        ensures { λ r. ⌜ Gives1 r (now (large .exit)) (toldBoth self n (now (large .entry))) ⌝ }
+    {
+        let heads = self.heads;
+        let flow = self.flow;
+        let a = 256;
+        let b = 1280;
+        let e = 2304;
+        let one = told(heads[0], self.one, &mut large[a..b], n);
+        let two = told(heads[1], self.two, &mut large[b..e], n);
+        Trace {
+            started: self.started,
+            flow,
+            heads,
+            one,
+            two,
+        }
+    }
+
+    // The payload is given.
+    fn written(self, payload: &[u8], store: &mut [u8], large: &mut [u64]) -> Followed
+        requires { ⌜ (length (now store) ≡ 4096) × (length (now large) ≡ 4352) ⌝ }
+        ensures { λ r. ⌜ Gives2 r (now (store .exit)) (now (large .exit)) (writtenOf (now (payload .entry)) self (now (store .entry)) (now (large .entry))) ⌝ }
+    {
+        let own = coherence(self.both_ok(large));
+        if own.number != 0 {
+            return self.refused(own);
+        }
+        let admitted = admitted_in(self.flow, payload, store, large);
+        let numbered = admitted.numbered;
+        let answer = numbered.answer;
+        if answer.number != 0 {
+            return self.refused(answer);
+        }
+        let heads = self.heads;
+        let after = self.with_flow(admitted.flow, heads);
+        let trace = after.told_both(large, numbered.number);
+        Followed { answer, trace }
+    }
+
+    // As many zeros as the line says; one byte too many stands for any number of bytes too many.
+    pub fn write_step(self, len: u64, store: &mut [u8], large: &mut [u64]) -> Followed
+        ensures { λ r. ⌜ Gives2 r (now (store .exit)) (now (large .exit)) (writeLine len self (now (store .entry)) (now (large .entry))) ⌝ }
+    {
+        if store.len() != 4096 {
+            return self.incoherent();
+        }
+        if large.len() != 4352 {
+            return self.incoherent();
+        }
+        let zeros: &[u8] = &[0, 0, 0, 0, 0, 0, 0, 0, 0, 0, 0, 0, 0, 0, 0, 0, 0];
+        let start = 0;
+        let n = smaller(len as usize, 17);
+        self.written(&zeros[start..n], store, large)
+    }
+}

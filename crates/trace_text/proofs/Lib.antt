@@ -1,0 +1,3 @@
+-- The laws of `trace_text`.
+pub mod Puts
+pub mod CutLaws

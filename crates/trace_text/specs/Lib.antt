@@ -1,0 +1,3 @@
+-- The definitions of `trace_text`.
+pub mod Answers
+pub mod Cuts
