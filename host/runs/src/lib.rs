@@ -19,6 +19,7 @@ pub mod oracle_subject;
 pub mod prng;
 pub mod range;
 pub mod reader_faults;
+pub mod replay;
 pub mod sight;
 pub mod subject;
 pub mod trace_lines;
