@@ -22,7 +22,7 @@ const SEED: u64 = 1;
 
 /// Readers and writers, in turn.
 const BLOCKS: u64 = 24;
-const CALLS_PER_BLOCK: u64 = 25;
+const CALLS_PER_BLOCK: u64 = 40;
 
 /// How far below the last number acked-through is listed.
 const ASKED_BELOW: i64 = 4;
@@ -172,7 +172,7 @@ fn writer_block(prng: &mut Prng, name: u64, lines: &mut Vec<String>) {
     let mut range = WriterRange::new(kind, limits);
     lines.push(format!(
         "10 writer {}; calls {}; reliable {} builtin {} volatile {}; \
-         window {} backlog {} retain {} slots {} bytes {}",
+         window {} backlog {} retain {} slots {} bytes {} store {}",
         name,
         CALLS_PER_BLOCK,
         u8::from(kind.reliable),
@@ -183,6 +183,7 @@ fn writer_block(prng: &mut Prng, name: u64, lines: &mut Vec<String>) {
         limits.retain,
         limits.slots,
         limits.slot_bytes,
+        limits.slots * limits.slot_bytes,
     ));
     let mut made = 0;
     while made < CALLS_PER_BLOCK {
