@@ -20,6 +20,7 @@ pub mod prng;
 pub mod range;
 pub mod raw;
 pub mod reader_faults;
+pub mod replay;
 pub mod sight;
 pub mod subject;
 pub mod trace_lines;
