@@ -73,11 +73,12 @@ or-yes true = refl
 or-yes false = refl
 
 new-alone : (h : ReaderHead) (hs : List ReaderHead) → meetSlot (gone hs) h .again ≡ false → alone hs h ≡ true
-new-alone h hs e = go (isThere (h .id) (readers hs)) refl
+new-alone h hs e = go (eqb (h .id) 0) (isThere (h .id) (readers hs)) refl e
   where
-    go : (t : Bool) → isThere (h .id) (readers hs) ≡ t → (eqb (h .id) 0 || not t) ≡ true
-    go true q = absurd (false≢true (sym e ∙ eq-eqb _ _ (low-has (h .id) hs q)))
-    go false q = or-yes (eqb (h .id) 0)
+    go : (z t : Bool) → isThere (h .id) (readers hs) ≡ t → (eqb (bitOr (gone hs .low) (lowBit (h .id))) (gone hs .low) && not z) ≡ false → (z || not t) ≡ true
+    go true t q n = refl
+    go false false q n = refl
+    go false true q n = absurd (false≢true (sym n ∙ (λ i. eq-eqb _ _ (low-has (h .id) hs q) i && true)))
 
 pub gone-fine : (hs : List ReaderHead) → gone hs .fine ≡ different (readers hs)
 gone-fine [] = refl

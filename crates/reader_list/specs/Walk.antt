@@ -47,9 +47,9 @@ noneMet = record { low = 0; again = false; fine = true }
 abbrev pub lowBit : ℕ → ℕ
 lowBit i = 1 * 2 ^ (i % 64) % 18446744073709551616
 
--- one slot: where its bit is there already, one with its id may be there too
+-- one slot: where its bit is there already, one with its id may be there too; a free slot isn't looked for
 abbrev pub meetSlot : Met → ReaderHead → Met
-meetSlot m h = record { low = bitOr (m .low) (lowBit (h .id)); again = eqb (bitOr (m .low) (lowBit (h .id))) (m .low); fine = m .fine }
+meetSlot m h = record { low = bitOr (m .low) (lowBit (h .id)); again = eqb (bitOr (m .low) (lowBit (h .id))) (m .low) && not (eqb (h .id) 0); fine = m .fine }
 
 -- where to look from: past the end, where none can be there
 abbrev pub startOf : Met → ℕ → ℕ

@@ -12,7 +12,7 @@ pub struct Sought {
     pub found: bool,
 }
 
-// The low bits of the ids so far, one bit each; whether the last one's were there before; and whether each stands alone.
+// The low bits of the ids so far, one bit each; whether the last one, if it is a reader's, had its bit there before; and whether each stands alone.
 pub struct Met {
     pub low: u64,
     pub again: bool,
@@ -71,7 +71,7 @@ fn meet_slot(m: Met, h: ReaderHead) -> Met
     ensures { λ r. ⌜ r ≡ meetSlot m h ⌝ }
 {
     let low = m.low | (1 << (h.id % 64));
-    let again = low == m.low;
+    let again = (low == m.low) & !(h.id == 0);
     Met {
         low,
         again,

@@ -76,16 +76,39 @@ fn slot_fits(h: ReaderHead) -> bool
     !(id == 0) | (!h.reliable & (n == 0))
 }
 
+fn id_on(here: bool, is: u64, was: u64) -> u64
+    ensures { λ r. ⌜ r ≡ cond here is was ⌝ }
+{
+    if here { is } else { was }
+}
+
+fn reliable_on(here: bool, is: bool, was: bool) -> bool
+    ensures { λ r. ⌜ r ≡ cond here is was ⌝ }
+{
+    if here { is } else { was }
+}
+
+fn acked_on(here: bool, is: SequenceNumber, was: SequenceNumber) -> SequenceNumber
+    ensures { λ r. ⌜ r ≡ cond here is was ⌝ }
+{
+    if here { is } else { was }
+}
+
+// What stands at the place asked for, field by field: so each stays in a register.
 fn head_on(at: usize, n: usize, hit: bool, old: ReaderHead, h: ReaderHead) -> ReaderHead
     ensures { λ r. ⌜ r ≡ cond (ltb at n) old (cond hit h old) ⌝ }
 {
-    if at < n {
-        return old;
+    let here = !(at < n) & hit;
+    let was = old.acked;
+    let is = h.acked;
+    let id = id_on(here, h.id, old.id);
+    let reliable = reliable_on(here, h.reliable, old.reliable);
+    let acked = acked_on(here, is, was);
+    ReaderHead {
+        id,
+        reliable,
+        acked,
     }
-    if hit {
-        return h;
-    }
-    old
 }
 
 // A free slot: all zeros.
