@@ -9,7 +9,7 @@ use lib.Dec.{eqb}
 use lib.ListN.{length, drop, getD, set}
 use borrow.Author.Tests.{eq-eqb, ne-eqb}
 use Rattle.numbers.specs.Promise.{Left1, Gives1}
-use Rattle.trace_lines.proofs.Laws.{here, done}
+use Rattle.sets.proofs.Loops.{here, done}
 use Rattle.trace_text.specs.declared.lines.Cut.{Cut}
 use Rattle.trace_text.specs.Cuts.{cutOf, held1}
 

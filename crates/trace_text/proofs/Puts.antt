@@ -11,7 +11,7 @@ use lib.ListN.{length, drop, getD, set}
 use lib.Seq.{set-out}
 use borrow.Author.Tests.{lt-ltb, le-ltb}
 use Rattle.numbers.specs.Promise.{Left1, Gives1}
-use Rattle.trace_lines.proofs.Laws.{here, done}
+use Rattle.sets.proofs.Loops.{here, done}
 use Rattle.trace_text.specs.Answers.{putOf, digits}
 
 -- a piece of text, and then more

@@ -6,7 +6,7 @@ use mathlib.Core.List.{List, [], _∷_, _++_}
 use mathlib.Core.Logic.{⊎-elim}
 use native.Mathlib.Omega.{arith}
 use lib.ListN.{length, take, drop, getD, set}
-use Rattle.trace_lines.proofs.Laws.{here, done}
+use Rattle.sets.proofs.Loops.{here, done}
 use borrow.Author.Tests.{lt-ltb, le-ltb, eq-eqb, ne-eqb}
 use lib.Seq.{set-out}
 use Rattle.numbers.specs.Promise.{Left1, Gives1}
