@@ -16,7 +16,7 @@ use Rattle.reader_list.specs.declared.ids.Sought.{Sought}
 use Rattle.reader_list.specs.declared.ids.Met.{Met}
 use Rattle.reader_list.specs.Readers.{isThere, different}
 use Rattle.reader_list.specs.Slots.{readers, freeSlot}
-use Rattle.reader_list.specs.Walk.{soughtFor, soughtOn, aloneEnd, alone, aloneFrom, noneMet, lowBit, meetSlot, startOf, toldAlone}
+use Rattle.reader_list.specs.Alone.{soughtFor, soughtOn, aloneEnd, alone, aloneFrom, noneMet, lowBit, meetSlot, startOf, toldAlone}
 
 -- ---- those after a slot: the id stays, and what was found is found
 sought-all : (hs : List ReaderHead) (i : ℕ) (found : Bool) → foldl soughtOn (record { id = i; found = found }) hs ≡ record { id = i; found = found || isThere i (readers hs) }

@@ -1,10 +1,8 @@
 -- What one walk over the list gathers, slot by slot. Assumes nothing.
-use Prim.Native.Nat.{ℕ, _+_, _*_, _^_, _%_, max}
+use Prim.Native.Nat.{ℕ, _+_, max}
 use mathlib.Core.Bool.{Bool, true, false, not, cond, _&&_, _||_}
 use mathlib.Core.List.{List, [], _∷_}
-use lib.Bits.{bitOr}
 use lib.Dec.{ltb, leb, eqb}
-use lib.ListN.{drop}
 use Rattle.numbers.specs.Number.{rankOf, negative, numberAt}
 use Rattle.numbers.specs.Refusals.{unless, done}
 use Rattle.numbers.specs.declared.answer.Answer.{Answer}
@@ -16,49 +14,8 @@ use Rattle.reader_list.specs.declared.calls.Front.{Front}
 use Rattle.reader_list.specs.declared.ends.Put.{Put}
 use Rattle.reader_list.specs.declared.walk.Ask.{Ask}
 use Rattle.reader_list.specs.declared.walk.Seen.{Seen}
-use Rattle.reader_list.specs.declared.ids.Sought.{Sought}
-use Rattle.reader_list.specs.declared.ids.Met.{Met}
-use Rattle.reader_list.specs.Readers.{meet, isThere, slotFits}
-use Rattle.reader_list.specs.Slots.{headOf, readers, freeSlot, frontierAt, listed, capAllowed}
-
--- WHETHER THE IDS ARE ALL DIFFERENT, from the last slot to the first
-
--- whether a slot is free, or none from a place on has its id: slot by slot
-abbrev pub soughtFor : ReaderHead → Sought
-soughtFor h = record { id = h .id; found = false }
-
-abbrev pub soughtOn : Sought → ReaderHead → Sought
-soughtOn s h = record { id = s .id; found = s .found || eqb (h .id) (s .id) }
-
-abbrev pub aloneEnd : Sought → Bool
-aloneEnd s = eqb (s .id) 0 || not (s .found)
-
-abbrev pub alone : List ReaderHead → ReaderHead → Bool
-alone hs h = eqb (h .id) 0 || not (isThere (h .id) (readers hs))
-
-abbrev pub aloneFrom : List ReaderHead → ℕ → ReaderHead → Bool
-aloneFrom hs from h = alone (drop from hs) h
-
--- nothing is met yet
-abbrev pub noneMet : Met
-noneMet = record { low = 0; again = false; fine = true }
-
--- the low six bits of an id, as one bit of a word
-abbrev pub lowBit : ℕ → ℕ
-lowBit i = 1 * 2 ^ (i % 64) % 18446744073709551616
-
--- one slot: where its bit is there already, one with its id may be there too; a free slot isn't looked for
-abbrev pub meetSlot : Met → ReaderHead → Met
-meetSlot m h = record { low = bitOr (m .low) (lowBit (h .id)); again = eqb (bitOr (m .low) (lowBit (h .id))) (m .low) && not (eqb (h .id) 0); fine = m .fine }
-
--- where to look from: past the end, where none can be there
-abbrev pub startOf : Met → ℕ → ℕ
-startOf m next = cond (m .again) next 18446744073709551615
-
-abbrev pub toldAlone : Met → Bool → Met
-toldAlone m alone = record { low = m .low; again = m .again; fine = m .fine && alone }
-
--- THE WALK
+use Rattle.reader_list.specs.Readers.{meet, slotFits}
+use Rattle.reader_list.specs.Slots.{headOf, freeSlot, frontierAt, listed, capAllowed}
 
 -- before the first slot
 abbrev pub begun : Ask → Bool → Seen

@@ -3,7 +3,7 @@
 ghost use mathlib.Core.Path.{_≡_};
 ghost use Rattle.reader_list.specs.Readers.{different};
 ghost use Rattle.reader_list.specs.Slots.{readers};
-ghost use Rattle.reader_list.specs.Walk.{aloneFrom, soughtFor, soughtOn, aloneEnd, noneMet, meetSlot, startOf, toldAlone};
+ghost use Rattle.reader_list.specs.Alone.{aloneFrom, soughtFor, soughtOn, aloneEnd, noneMet, meetSlot, startOf, toldAlone};
 use crate::heads::ReaderHead;
 
 // An id, and whether a slot has it.

@@ -9,7 +9,7 @@ use Rattle.lent.proofs.On.{Over2}
 use Rattle.lent.proofs.FoldBack.{meets}
 use Rattle.reader_list.specs.Readers.{different}
 use Rattle.reader_list.specs.Slots.{readers, freeSlot}
-use Rattle.reader_list.specs.Walk.{aloneFrom, noneMet, meetSlot, startOf, toldAlone}
+use Rattle.reader_list.specs.Alone.{aloneFrom, noneMet, meetSlot, startOf, toldAlone}
 use Rattle.reader_list.proofs.Alone.{gone, gone-fine, gone-more}
 use Rattle.reader_list.proofs.Cells.{head, met}
 use Rattle.reader_list.proofs.ids.none_met.Symbol as begin

@@ -6,7 +6,7 @@ use lib.ListN.{drop}
 use Rattle.lent.proofs.Plain.{boolean, By1, By2}
 use Rattle.lent.proofs.FoldFrom.{meets}
 use Rattle.reader_list.specs.Slots.{freeSlot}
-use Rattle.reader_list.specs.Walk.{soughtFor, soughtOn, aloneEnd, aloneFrom}
+use Rattle.reader_list.specs.Alone.{soughtFor, soughtOn, aloneEnd, aloneFrom}
 use Rattle.reader_list.proofs.Alone.{alone-is}
 use Rattle.reader_list.proofs.Cells.{head, sought}
 use Rattle.reader_list.proofs.ids.sought_for.Symbol as begin
