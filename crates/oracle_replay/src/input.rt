@@ -11,15 +11,13 @@ pub struct Input {
 }
 
 struct Byte {
-    there: bool,
     byte: u8,
     input: Input,
 }
 
-// How many numbers a line had, whether there was one, and where the input stands.
+// How many numbers a line had, and where the input stands.
 pub struct Line {
     pub count: usize,
-    pub there: bool,
     pub input: Input,
 }
 
@@ -47,7 +45,6 @@ fn next_byte(buf: &mut [u8], input: Input) -> Byte {
     let at = now.at;
     let end = now.end;
     let none = Byte {
-        there: false,
         byte: 10,
         input: now,
     };
@@ -59,11 +56,7 @@ fn next_byte(buf: &mut [u8], input: Input) -> Byte {
     }
     let byte = buf[at];
     let input = Input { at: at + 1, end };
-    Byte {
-        there: true,
-        byte,
-        input,
-    }
+    Byte { byte, input }
 }
 
 // The worth of a digit; 16 for a byte that is none.
@@ -153,7 +146,6 @@ pub fn read_line(buf: &mut [u8], line: &mut [u64], input: Input) -> Line {
         value: 0,
     };
     let mut count = 0;
-    let mut there = true;
     let mut left = 65536;
     while 0 < left {
         let next = next_byte(buf, at);
@@ -161,13 +153,8 @@ pub fn read_line(buf: &mut [u8], line: &mut [u64], input: Input) -> Line {
         let d = digit(b, token.hex);
         count = token.noted(line, count, d);
         token = token.with(b, d);
-        there = next.there;
         at = next.input;
         left = left_after(b, left);
     }
-    Line {
-        count,
-        there,
-        input: at,
-    }
+    Line { count, input: at }
 }

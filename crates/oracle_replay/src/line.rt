@@ -54,6 +54,17 @@ pub fn sum(a: u64, b: u64) -> u64 {
     a + b
 }
 
+// How many calls from the first on are as the crate's, once call i is compared.
+pub fn counted(same: u64, i: u64, all: bool) -> u64 {
+    if !all {
+        return same;
+    }
+    if same != i {
+        return same;
+    }
+    sum(same, 1)
+}
+
 // A signed number, from its two's complement.
 pub fn number(line: &[u64], i: usize) -> SequenceNumber {
     let n = at(line, i);
@@ -87,6 +98,11 @@ pub fn words_at(line: &[u64], i: usize) -> [u32; 8] {
 }
 
 impl Seen {
+    // All was as the crate's, and the line has no more than its `count` numbers.
+    pub fn is_all(self, count: usize) -> bool {
+        self.same & (self.at == count)
+    }
+
     // The next number of the line is n.
     pub fn expect(self, line: &[u64], n: u64) -> Seen {
         let i = self.at;

@@ -16,13 +16,7 @@ use input::read_line;
 use libc::STDOUT_FILENO;
 use line::at;
 use line::sum;
-
-// How many calls of a block were as the crate's, whether there was a block, and where the input stands.
-struct Told {
-    same: u64,
-    there: bool,
-    input: Input,
-}
+use reader::Replayed;
 
 // The line of a block: all its calls, or the first that differs.
 fn tell(same: u64, calls: u64) {
@@ -47,30 +41,19 @@ fn name(of: u64, n: u64) {
 }
 
 // A reader or a writer, with its calls.
-fn replay_block(buf: &mut [u8], line: &mut [u64], input: Input) -> Told {
+fn replay_block(buf: &mut [u8], line: &mut [u64], input: Input) -> Replayed {
     let head = read_line(buf, line, input);
-    let there = head.there;
     let kind = at(line, 0);
     let calls = at(line, 2);
     name(kind, at(line, 1));
     if kind == 0 {
         let done = reader::replay(buf, line, head.input);
         tell(done.same, calls);
-        let input = done.input;
-        return Told {
-            same: done.same,
-            there,
-            input,
-        };
+        return done;
     }
     let done = writer::replay(buf, line, head.input);
     tell(done.same, calls);
-    let input = done.input;
-    Told {
-        same: done.same,
-        there,
-        input,
-    }
+    done
 }
 
 fn run(buf: &mut [u8], line: &mut [u64]) {
@@ -85,9 +68,6 @@ fn run(buf: &mut [u8], line: &mut [u64]) {
         input = done.input;
         same = sum(same, done.same);
         i += 1;
-        if !done.there {
-            i = blocks;
-        }
     }
     io::print_decimal(STDOUT_FILENO, same);
     io::write_all(STDOUT_FILENO, b" of ");

@@ -3,11 +3,10 @@ use crate::input::Input;
 use crate::input::read_line;
 use crate::line::Seen;
 use crate::line::at;
-use crate::line::bit;
+use crate::line::counted;
 use crate::line::fragment;
 use crate::line::half;
 use crate::line::number;
-use crate::line::sum;
 use crate::line::words_at;
 use crate::reader_shown::shown;
 use number_sets::FragmentNumberSet;
@@ -22,15 +21,10 @@ struct Made {
     seen: Seen,
 }
 
-// The calls of a block, how many of them were as the crate's, and where the input stands.
+// How many calls of a block, from the first on, were as the crate's, and where the input stands.
 pub struct Replayed {
     pub same: u64,
     pub input: Input,
-}
-
-fn not_made(head: ReaderProxy) -> Made {
-    let seen = Seen { at: 0, same: false };
-    Made { head, seen }
 }
 
 // The crate's functions give no answer here. Inside the compared range the library's is 0, but for an ACKNACK above last + 1.
@@ -62,45 +56,46 @@ fn ack(line: &[u64], head: ReaderProxy, unsent: &mut [u64], gaps: &mut [u64]) ->
     Made { head, seen }
 }
 
-fn unsent_call(line: &[u64], kind: u64, head: ReaderProxy, unsent: &mut [u64]) -> Made {
+fn notify(line: &[u64], head: ReaderProxy, unsent: &mut [u64]) -> Made {
+    done(head.notify_new_cache_change(unsent, number(line, 1)), 2)
+}
+
+fn mark_sent(line: &[u64], head: ReaderProxy, unsent: &mut [u64]) -> Made {
+    done(head.mark_change_sent(unsent, number(line, 1)), 2)
+}
+
+fn remove_before(line: &[u64], head: ReaderProxy, unsent: &mut [u64]) -> Made {
     let n = number(line, 1);
-    if kind == 2 {
-        return done(head.notify_new_cache_change(unsent, n), 2);
-    }
-    if kind == 3 {
-        return done(head.mark_change_sent(unsent, n), 2);
-    }
     done(head.remove_from_unsent_set_all_before(unsent, n), 2)
 }
 
-fn gap_call(line: &[u64], kind: u64, head: ReaderProxy, gaps: &mut [u64]) -> Made {
+fn insert_gap(line: &[u64], head: ReaderProxy, gaps: &mut [u64]) -> Made {
     let n = number(line, 1);
     let last = number(line, 2);
-    if kind == 5 {
-        return done(head.insert_pending_gap(gaps, n, last), 3);
-    }
-    done(head.set_pending_gap_up_to(gaps, n, last), 3)
+    done(head.insert_pending_gap(gaps, n, last), 3)
 }
 
-fn fragment_call(
-    line: &[u64],
-    kind: u64,
-    head: ReaderProxy,
-    samples: &mut [u64],
-    words: &mut [u64],
-) -> Made {
+fn gap_up_to(line: &[u64], head: ReaderProxy, gaps: &mut [u64]) -> Made {
+    let end = number(line, 1);
+    let last = number(line, 2);
+    done(head.set_pending_gap_up_to(gaps, end, last), 3)
+}
+
+fn request(line: &[u64], head: ReaderProxy, samples: &mut [u64], words: &mut [u64]) -> Made {
     let n = number(line, 1);
-    if kind == 7 {
-        let base = fragment(line, 2);
-        let count = half(line, 3);
-        let bits = words_at(line, 4);
-        let set = FragmentNumberSet {
-            base,
-            count,
-            words: bits,
-        };
-        return done(head.mark_frags_requested(samples, words, n, set), 12);
-    }
+    let base = fragment(line, 2);
+    let count = half(line, 3);
+    let bits = words_at(line, 4);
+    let set = FragmentNumberSet {
+        base,
+        count,
+        words: bits,
+    };
+    done(head.mark_frags_requested(samples, words, n, set), 12)
+}
+
+fn frag_sent(line: &[u64], head: ReaderProxy, samples: &mut [u64], words: &mut [u64]) -> Made {
+    let n = number(line, 1);
     let f = fragment(line, 2);
     done(head.mark_frag_sent(samples, words, n, f), 3)
 }
@@ -113,46 +108,38 @@ fn call(
     samples: &mut [u64],
     words: &mut [u64],
 ) -> Made {
-    let kind = at(line, 0);
-    if kind == 1 {
-        return ack(line, head, unsent, gaps);
+    match at(line, 0) {
+        1 => ack(line, head, unsent, gaps),
+        2 => notify(line, head, unsent),
+        3 => mark_sent(line, head, unsent),
+        4 => remove_before(line, head, unsent),
+        5 => insert_gap(line, head, gaps),
+        6 => gap_up_to(line, head, gaps),
+        7 => request(line, head, samples, words),
+        8 => frag_sent(line, head, samples, words),
+        _ => Made {
+            head,
+            seen: Seen { at: 0, same: false },
+        },
     }
-    if (2 <= kind) & (kind <= 4) {
-        return unsent_call(line, kind, head, unsent);
-    }
-    if (5 <= kind) & (kind <= 6) {
-        return gap_call(line, kind, head, gaps);
-    }
-    if (7 <= kind) & (kind <= 8) {
-        return fragment_call(line, kind, head, samples, words);
-    }
-    not_made(head)
 }
 
-// The call of one line of n numbers, and what the record shows after it. Once a call has differed no more are made.
+// The call of one line, and what the record shows after it.
 fn replay_line(
-    room: &[u64],
-    n: usize,
-    good: bool,
-    head: ReaderProxy,
+    line: &[u64],
+    old: ReaderProxy,
     unsent: &mut [u64],
     gaps: &mut [u64],
     samples: &mut [u64],
     words: &mut [u64],
 ) -> Made {
-    if !good {
-        return not_made(head);
-    }
-    if room.len() < n {
-        return not_made(head);
-    }
-    let line = &room[..n];
-    let made = call(line, head, unsent, gaps, samples, words);
+    let made = call(line, old, unsent, gaps, samples, words);
     let head = made.head;
     let seen = shown(line, head, unsent, gaps, samples, words, made.seen);
     Made { head, seen }
 }
 
+// The calls up to the first that differs are counted.
 fn replay_lines(
     buf: &mut [u8],
     room: &mut [u64],
@@ -166,17 +153,15 @@ fn replay_lines(
 ) -> Replayed {
     let mut head = fresh;
     let mut place = input;
-    let mut good = true;
     let mut same = 0;
     let mut i = 0;
     while i < calls {
         let line = read_line(buf, room, place);
         place = line.input;
-        let made = replay_line(room, line.count, good, head, unsent, gaps, samples, words);
+        let made = replay_line(room, head, unsent, gaps, samples, words);
         head = made.head;
         let seen = made.seen;
-        good = seen.same;
-        same = sum(same, bit(good));
+        same = counted(same, i, seen.is_all(line.count));
         i += 1;
     }
     Replayed { same, input: place }

@@ -182,7 +182,7 @@ fn questions_shown(
     now.expect(line, bit(any.yes))
 }
 
-// The whole record, and the line says no more than this.
+// The whole record.
 pub fn shown(
     line: &[u64],
     head: ReaderProxy,
@@ -197,9 +197,5 @@ pub fn shown(
     now = walked(line, head, unsent, gaps, false, now);
     now = walked(line, head, unsent, gaps, true, now);
     now = fragments_shown(line, head, samples, words, now);
-    now = questions_shown(line, head, unsent, gaps, samples, words, now);
-    Seen {
-        at: now.at,
-        same: now.same & (now.at == line.len()),
-    }
+    questions_shown(line, head, unsent, gaps, samples, words, now)
 }

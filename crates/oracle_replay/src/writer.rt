@@ -5,26 +5,21 @@ use crate::line::Seen;
 use crate::line::after;
 use crate::line::at;
 use crate::line::bit;
+use crate::line::counted;
 use crate::line::number;
-use crate::line::sum;
 use crate::reader::Replayed;
 use crate::writer_shown::shown;
 use numbers::Answer;
 use reader_list::AckedFrontier;
 use writer_send_buffer::Kind;
 use writer_send_buffer::Limits;
-use writer_send_buffer::Woken;
+use writer_send_buffer::Told;
 use writer_send_buffer::WriterSendBuffer;
 
 // A call that was made: the record after it, whether the answer was as the crate's, and where the line tells what the crate showed.
 struct Made {
     flow: WriterSendBuffer,
     seen: Seen,
-}
-
-fn not_made(flow: WriterSendBuffer) -> Made {
-    let seen = Seen { at: 0, same: false };
-    Made { flow, seen }
 }
 
 // The payload of a line: its bytes from place 3 on.
@@ -47,7 +42,8 @@ fn admit(
     let opted = at(line, 1) == 1;
     let n = at(line, 2) as usize;
     if payload.len() < n {
-        return not_made(flow);
+        let seen = Seen { at: 0, same: false };
+        return Made { flow, seen };
     }
     let r = flow.with_sample(store, lens, &payload[..n], opted);
     let told = r.numbered;
@@ -67,77 +63,69 @@ fn admit(
     Made { flow, seen }
 }
 
-// A frontier moved: the crate's "wake".
-fn woken(line: &[u64], r: Woken, place: usize) -> Made {
-    let told = r.told;
+fn write(line: &[u64], flow: WriterSendBuffer, store: &mut [u8], lens: &mut [u64]) -> Made {
+    let mut payload = [0u8; 16];
+    fill(&mut payload, line);
+    admit(line, flow, store, lens, &payload)
+}
+
+// What a moved frontier is answered: the crate's "wake".
+fn answered(line: &[u64], told: Told, place: usize) -> Seen {
     let answer = told.answer;
     let start = Seen {
         at: place,
         same: answer.number == Answer::DONE,
     };
-    let seen = start.expect(line, 0).expect(line, bit(told.yes));
+    start.expect(line, 0).expect(line, bit(told.yes))
+}
+
+fn set_acked(line: &[u64], old: WriterSendBuffer) -> Made {
+    let present = at(line, 1) == 1;
+    let acked = number(line, 2);
+    let r = old.with_acked_frontier(AckedFrontier { present, acked });
     let flow = r.flow;
+    let seen = answered(line, r.told, 3);
     Made { flow, seen }
 }
 
-fn call(
-    line: &[u64],
-    flow: WriterSendBuffer,
-    store: &mut [u8],
-    lens: &mut [u64],
-    payload: &mut [u8],
-) -> Made {
-    let kind = at(line, 0);
-    if kind == 11 {
-        fill(payload, line);
-        return admit(line, flow, store, lens, payload);
-    }
-    if kind == 12 {
-        let present = at(line, 1) == 1;
-        let acked = number(line, 2);
-        let frontier = AckedFrontier { present, acked };
-        return woken(line, flow.with_acked_frontier(frontier), 3);
-    }
-    if kind == 13 {
-        return woken(line, flow.with_sent_frontier(number(line, 1)), 2);
-    }
-    if kind == 14 {
-        let r = flow.with_changes_removed(number(line, 1));
-        let answer = r.answer;
-        let start = Seen {
-            at: 2,
-            same: answer.number == Answer::DONE,
-        };
-        let seen = start.expect(line, 0).expect(line, 0);
-        let flow = r.flow;
-        return Made { flow, seen };
-    }
-    not_made(flow)
+fn set_sent(line: &[u64], old: WriterSendBuffer) -> Made {
+    let r = old.with_sent_frontier(number(line, 1));
+    let flow = r.flow;
+    let seen = answered(line, r.told, 2);
+    Made { flow, seen }
 }
 
-// The call of one line of n numbers, and what the buffer shows after it. Once a call has differed no more are made.
-fn replay_line(
-    room: &[u64],
-    n: usize,
-    good: bool,
-    flow: WriterSendBuffer,
-    store: &mut [u8],
-    lens: &mut [u64],
-    payload: &mut [u8],
-) -> Made {
-    if !good {
-        return not_made(flow);
+// An eviction wakes nobody.
+fn evict(line: &[u64], old: WriterSendBuffer) -> Made {
+    let r = old.with_changes_removed(number(line, 1));
+    let flow = r.flow;
+    let answer = r.answer;
+    let seen = answered(line, Told { answer, yes: false }, 2);
+    Made { flow, seen }
+}
+
+fn call(line: &[u64], flow: WriterSendBuffer, store: &mut [u8], lens: &mut [u64]) -> Made {
+    match at(line, 0) {
+        11 => write(line, flow, store, lens),
+        12 => set_acked(line, flow),
+        13 => set_sent(line, flow),
+        14 => evict(line, flow),
+        _ => Made {
+            flow,
+            seen: Seen { at: 0, same: false },
+        },
     }
-    if room.len() < n {
-        return not_made(flow);
-    }
-    let line = &room[..n];
-    let made = call(line, flow, store, lens, payload);
+}
+
+// The call of one line, and what the buffer shows after it.
+fn replay_line(line: &[u64], old: WriterSendBuffer, store: &mut [u8], lens: &mut [u64]) -> Made {
+    let made = call(line, old, store, lens);
     let flow = made.flow;
     let seen = shown(line, flow, store, lens, made.seen);
     Made { flow, seen }
 }
 
+// The calls up to the first that differs are counted.
 fn replay_lines(
     buf: &mut [u8],
     room: &mut [u64],
@@ -146,21 +134,18 @@ fn replay_lines(
     fresh: WriterSendBuffer,
     store: &mut [u8],
     lens: &mut [u64],
-    payload: &mut [u8],
 ) -> Replayed {
     let mut flow = fresh;
     let mut place = input;
-    let mut good = true;
     let mut same = 0;
     let mut i = 0;
     while i < calls {
         let line = read_line(buf, room, place);
         place = line.input;
-        let made = replay_line(room, line.count, good, flow, store, lens, payload);
+        let made = replay_line(room, flow, store, lens);
         flow = made.flow;
         let seen = made.seen;
-        good = seen.same;
-        same = sum(same, bit(good));
+        same = counted(same, i, seen.is_all(line.count));
         i += 1;
     }
     Replayed { same, input: place }
@@ -177,7 +162,6 @@ fn replay_in(
     slots: usize,
     store: &mut [u8],
     lens: &mut [u64],
-    payload: &mut [u8],
 ) -> Replayed {
     if store.len() < size {
         return Replayed { same: 0, input };
@@ -193,12 +177,11 @@ fn replay_in(
         fresh,
         &mut store[..size],
         &mut lens[..slots],
-        payload,
     )
 }
 
-// The writer that a block's first line tells of, and its calls.
-pub fn replay(buf: &mut [u8], room: &mut [u64], input: Input) -> Replayed {
+// The writer that a block's first line tells of.
+fn fresh_writer(room: &[u64]) -> WriterSendBuffer {
     let kind = Kind {
         reliable: at(room, 3) == 1,
         builtin: at(room, 4) == 1,
@@ -211,13 +194,17 @@ pub fn replay(buf: &mut [u8], room: &mut [u64], input: Input) -> Replayed {
         slots: at(room, 9),
         slot_bytes: at(room, 10),
     };
-    let fresh = WriterSendBuffer::new(kind, limits).flow;
+    WriterSendBuffer::new(kind, limits).flow
+}
+
+// That writer, and its calls.
+pub fn replay(buf: &mut [u8], room: &mut [u64], input: Input) -> Replayed {
     let calls = at(room, 2);
+    let fresh = fresh_writer(room);
     let slots = at(room, 9) as usize;
     let size = at(room, 11) as usize;
     let mut store = [0u8; 4096];
     let mut lens = [0u64; 256];
-    let mut payload = [0u8; 16];
     replay_in(
         buf,
         room,
@@ -228,6 +215,5 @@ pub fn replay(buf: &mut [u8], room: &mut [u64], input: Input) -> Replayed {
         slots,
         &mut store,
         &mut lens,
-        &mut payload,
     )
 }

@@ -87,16 +87,12 @@ fn throughs_shown(line: &[u64], flow: WriterSendBuffer, seen: Seen) -> Seen {
     now
 }
 
-// The whole buffer, and the line says no more than this.
+// The whole buffer.
 pub fn shown(line: &[u64], flow: WriterSendBuffer, store: &[u8], lens: &[u64], seen: Seen) -> Seen {
     let last = flow.last_change_sequence_number();
     let first = flow.first_change_sequence_number();
     let mut now = seen.expect(line, last.number.rank());
     now = now.expect(line, first.number.rank());
     now = fetches_shown(line, flow, store, lens, now);
-    now = throughs_shown(line, flow, now);
-    Seen {
-        at: now.at,
-        same: now.same & (now.at == line.len()),
-    }
+    throughs_shown(line, flow, now)
 }

@@ -216,7 +216,12 @@ fn writer_call(call: &WriterCall) -> String {
                 Way::Blocking => "admit_blocking",
                 Way::Try => "try_admit",
             };
-            format!("11 {} opted {} bytes {}", way, u8::from(*opted_in), listed(bytes))
+            format!(
+                "11 {} opted {} bytes {}",
+                way,
+                u8::from(*opted_in),
+                listed(bytes)
+            )
         }
         WriterCall::SetAcked { frontier } => format!(
             "12 set_acked_frontier there {} at {}",

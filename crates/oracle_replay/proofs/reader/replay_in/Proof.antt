@@ -1,61 +1,43 @@
-use Prim.Native.Nat.{ℕ, _≤_, _<_, _+_, _-_, _*_}
-use mathlib.Core.Path.{_≡_, sym}
-use native.Mathlib.Omega.{arith}
-use lib.ListN.{length}
+-- `replay_in` is safe and ends. Assumes nothing.
+use mathlib.Core.Path.{sym}
 use lib.Seq.{length-take-le}
 use borrow.Author.Needs.{needs}
 use Rattle.oracle_replay.proofs.reader.replay_in.Statement.{statement}
 use Rattle.oracle_replay.proofs.reader.replay_in.Tie as tie
-use Rattle.oracle_replay.proofs.reader.replay_in.Reads as reads
-use Rattle.oracle_replay.proofs.reader.replay_in.Lts as lts
-use Rattle.oracle_replay.proofs.reader.replay_lines.Reads as replay-lines-reads
-use Rattle.rtps_reader_proxy.proofs.proxy.ReaderProxy.new.Reads as new-reads
 
--- src/reader.rt:197:17
 new-requires : tie.Need-new-requires
 new-requires c κs = search needs
 
--- src/reader.rt:199:9
 returns : tie.Need-returns
 returns c = search needs
 
--- src/reader.rt:207:9
 slice-relend-prefix-replay-lines : tie.Need-slice-relend-prefix-replay-lines
 slice-relend-prefix-replay-lines c = search needs
 
--- src/reader.rt:207:9
 slice-aggregate-replay-lines : tie.Need-slice-aggregate-replay-lines
 slice-aggregate-replay-lines c = sym (length-take-le (c .before .before .before .before .before .before .before .before .before .before .before .before .args .cap) (c .before .before .before .before .before .before .before .before .before .before .before .before .args .unsent .now) (c .before .before .before .if1 .left))
 
--- src/reader.rt:201:5
 replay-lines-requires : tie.Need-replay-lines-requires
 replay-lines-requires c κs = search needs
 
--- src/reader.rt:186:1
 same-length : tie.Need-same-length
 same-length c = search needs
 
--- src/reader.rt:186:1
 same-length-2 : tie.Need-same-length-2
 same-length-2 c = search needs
 
--- src/reader.rt:186:1
 same-length-3 : tie.Need-same-length-3
 same-length-3 c = search needs
 
--- src/reader.rt:186:1
 same-length-4 : tie.Need-same-length-4
 same-length-4 c = search needs
 
--- src/reader.rt:186:1
 same-length-5 : tie.Need-same-length-5
 same-length-5 c = search needs
 
--- src/reader.rt:186:1
 same-length-6 : tie.Need-same-length-6
 same-length-6 c = search needs
 
--- src/reader.rt:186:1
 returns-2 : tie.Need-returns-2
 returns-2 c = search needs
 

@@ -1,85 +1,67 @@
-use Prim.Native.Nat.{ℕ, _≤_, _<_, _+_, _-_, _*_}
+-- `replay_lines` is safe and ends. Assumes nothing.
+use Prim.Native.Nat.{_≤_, _-_}
 use mathlib.Core.Path.{_≡_, _∙_}
 use native.Mathlib.Omega.{arith}
 use borrow.Author.Needs.{needs}
 use lib.ListN.{length}
 use Rattle.oracle_replay.proofs.reader.replay_lines.Statement.{statement}
 use Rattle.oracle_replay.proofs.reader.replay_lines.Tie as tie
-use Rattle.oracle_replay.proofs.reader.replay_lines.Reads as reads
-use Rattle.oracle_replay.proofs.reader.replay_lines.Lts as lts
-use Rattle.oracle_replay.proofs.input.read_line.Reads as read-line-reads
-use Rattle.oracle_replay.proofs.line.bit.Reads as bit-reads
-use Rattle.oracle_replay.proofs.line.sum.Reads as sum-reads
-use Rattle.oracle_replay.proofs.reader.replay_line.Reads as replay-line-reads
 
 abbrev Inv-loop : tie.InvT-loop
-Inv-loop buf₀ room₀ calls unsent₀ gaps₀ samples₀ words₀ head₀ place₀ good₀ same₀ i₀ buf room unsent gaps samples words head place good same i =
+Inv-loop buf₀ room₀ calls unsent₀ gaps₀ samples₀ words₀ head₀ place₀ same₀ i₀ buf room unsent gaps samples words head place same i =
     (i ≤ calls) × (length buf ≡ length buf₀) × (length room ≡ length room₀) × (length unsent ≡ length unsent₀) × (length gaps ≡ length gaps₀) × (length samples ≡ length samples₀) × (length words ≡ length words₀)
 
 abbrev μ-loop : tie.MeasureT-loop
-μ-loop buf₀ room₀ calls unsent₀ gaps₀ samples₀ words₀ head₀ place₀ good₀ same₀ i₀ buf room unsent gaps samples words head place good same i =
+μ-loop buf₀ room₀ calls unsent₀ gaps₀ samples₀ words₀ head₀ place₀ same₀ i₀ buf room unsent gaps samples words head place same i =
     calls - i
 
--- src/reader.rt:172:5
 loop-holds : tie.Need-loop-holds Inv-loop μ-loop
 loop-holds c = search needs
 
--- src/reader.rt:173:13
 read-line-requires : tie.Need-read-line-requires Inv-loop μ-loop
 read-line-requires c κs = search needs
 
--- src/reader.rt:175:13
 replay-line-requires : tie.Need-replay-line-requires Inv-loop μ-loop
 replay-line-requires c κs = search needs
 
--- src/reader.rt:179:26
-bit-requires : tie.Need-bit-requires Inv-loop μ-loop
-bit-requires c κs = search needs
+is-all-requires : tie.Need-is-all-requires Inv-loop μ-loop
+is-all-requires c κs = search needs
 
--- src/reader.rt:179:9
-sum-requires : tie.Need-sum-requires Inv-loop μ-loop
-sum-requires c κs = search needs
+counted-requires : tie.Need-counted-requires Inv-loop μ-loop
+counted-requires c κs = search needs
 
--- src/reader.rt:180:9
 add-i : tie.Need-add-i Inv-loop μ-loop
 add-i c = omega (arith, c .before .before .before .before .before .before .before .before .before .before .before .before .before .before .before .before .before .before .before .before .before .before .before .before .before .before .loop-test .taken, c .before .before .before .before .before .before .before .before .before .before .before .before .before .before .before .before .before .before .before .before .before .before .before .before .before .before .before .before .before .before .before .before .before .before .fits .calls)
 
--- src/reader.rt:172:5
 loop-less : tie.Need-loop-less Inv-loop μ-loop
 loop-less c = omega (arith, c .before .before .before .before .before .before .before .before .before .before .before .before .before .before .before .before .before .before .before .before .before .before .before .before .before .before .loop-test .taken)
 
--- src/reader.rt:172:5
 loop-again : tie.Need-loop-again Inv-loop μ-loop
 loop-again c =
     let l = c .before .before .before .before .before .before .before .before .before .before .before .before .before .before .before .before .before .before .before .before .before .before .before .before .before .before .before .loop in
     let t = c .before .before .before .before .before .before .before .before .before .before .before .before .before .before .before .before .before .before .before .before .before .before .before .before .before .before .loop-test .taken in
-    (omega (arith, t), c .before .before .before .before .before .before .before .before .before .before .before .before .before .before .before .before .before .before .before .before .before .before .before .read-line .kept .0 ∙ l .inv .1, c .before .before .before .before .before .before .before .before .before .before .before .before .before .before .before .before .before .before .before .before .before .before .before .read-line .kept .1 .0 ∙ l .inv .2, c .before .before .before .before .before .before .before .before .before .before .before .before .replay-line .kept .1 .1 .1 .1 .0 ∙ l .inv .3, c .before .before .before .before .before .before .before .before .before .before .before .before .replay-line .kept .1 .1 .1 .1 .1 .0 ∙ l .inv .4, c .before .before .before .before .before .before .before .before .before .before .before .before .replay-line .kept .1 .1 .1 .1 .1 .1 .0 ∙ l .inv .5, c .before .before .before .before .before .before .before .before .before .before .before .before .replay-line .kept .1 .1 .1 .1 .1 .1 .1 .0 ∙ l .inv .6)
+    let r = c .before .before .before .before .before .before .before .before .before .before .before .before .before .before .before .before .before .before .before .before .before .before .before .read-line in
+    let m = c .before .before .before .before .before .before .before .before .before .before .before .before .replay-line in
+    (omega (arith, t), r .kept .0 ∙ l .inv .1, r .kept .1 .0 ∙ l .inv .2, m .kept .1 .1 .0 ∙ l .inv .3, m .kept .1 .1 .1 .0 ∙ l .inv .4, m .kept .1 .1 .1 .1 .0 ∙ l .inv .5, m .kept .1 .1 .1 .1 .1 .0 ∙ l .inv .6)
 
--- src/reader.rt:156:1
 same-length : tie.Need-same-length Inv-loop μ-loop
 same-length c = search needs
 
--- src/reader.rt:156:1
 same-length-2 : tie.Need-same-length-2 Inv-loop μ-loop
 same-length-2 c = search needs
 
--- src/reader.rt:156:1
 same-length-3 : tie.Need-same-length-3 Inv-loop μ-loop
 same-length-3 c = search needs
 
--- src/reader.rt:156:1
 same-length-4 : tie.Need-same-length-4 Inv-loop μ-loop
 same-length-4 c = search needs
 
--- src/reader.rt:156:1
 same-length-5 : tie.Need-same-length-5 Inv-loop μ-loop
 same-length-5 c = search needs
 
--- src/reader.rt:156:1
 same-length-6 : tie.Need-same-length-6 Inv-loop μ-loop
 same-length-6 c = search needs
 
--- src/reader.rt:156:1
 returns : tie.Need-returns Inv-loop μ-loop
 returns c = search needs
 
@@ -92,8 +74,8 @@ replay-lines-spec =
     loop-holds
     read-line-requires
     replay-line-requires
-    bit-requires
-    sum-requires
+    is-all-requires
+    counted-requires
     add-i
     loop-less
     loop-again

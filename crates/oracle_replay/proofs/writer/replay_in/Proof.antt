@@ -1,64 +1,43 @@
-use Prim.Native.Nat.{ℕ, _≤_, _<_, _+_, _-_, _*_}
-use mathlib.Core.Path.{_≡_, sym}
-use native.Mathlib.Omega.{arith}
-use lib.ListN.{length}
+-- `replay_in` is safe and ends. Assumes nothing.
+use mathlib.Core.Path.{sym}
 use lib.Seq.{length-take-le}
 use borrow.Author.Needs.{needs}
 use Rattle.oracle_replay.proofs.writer.replay_in.Statement.{statement}
 use Rattle.oracle_replay.proofs.writer.replay_in.Tie as tie
-use Rattle.oracle_replay.proofs.writer.replay_in.Reads as reads
-use Rattle.oracle_replay.proofs.writer.replay_in.Lts as lts
-use Rattle.oracle_replay.proofs.writer.replay_lines.Reads as replay-lines-reads
 
--- src/writer.rt:183:9
 returns : tie.Need-returns
 returns c = search needs
 
--- src/writer.rt:186:9
 returns-2 : tie.Need-returns-2
 returns-2 c = search needs
 
--- src/writer.rt:194:9
 slice-relend-prefix-replay-lines : tie.Need-slice-relend-prefix-replay-lines
 slice-relend-prefix-replay-lines c = search needs
 
--- src/writer.rt:194:9
 slice-aggregate-replay-lines : tie.Need-slice-aggregate-replay-lines
-slice-aggregate-replay-lines c = sym (length-take-le (c .before .before .before .before .before .before .before .before .before .before .args .size) (c .before .before .before .before .before .before .before .before .before .before .args .store .now) (c .before .before .before .before .if1 .left))
+slice-aggregate-replay-lines c = sym (length-take-le (c .before .before .before .before .before .before .before .before .before .args .size) (c .before .before .before .before .before .before .before .before .before .args .store .now) (c .before .before .before .before .if1 .left))
 
--- src/writer.rt:195:9
 slice-relend-prefix-replay-lines-2 : tie.Need-slice-relend-prefix-replay-lines-2
 slice-relend-prefix-replay-lines-2 c = search needs
 
--- src/writer.rt:195:9
 slice-aggregate-replay-lines-2 : tie.Need-slice-aggregate-replay-lines-2
-slice-aggregate-replay-lines-2 c = sym (length-take-le (c .before .before .before .before .before .before .before .before .before .before .before .args .slots) (c .before .before .before .before .before .before .before .before .before .before .before .args .lens .now) (c .before .before .before .before .if2 .left))
+slice-aggregate-replay-lines-2 c = sym (length-take-le (c .before .before .before .before .before .before .before .before .before .before .args .slots) (c .before .before .before .before .before .before .before .before .before .before .args .lens .now) (c .before .before .before .before .if2 .left))
 
--- src/writer.rt:188:5
 replay-lines-requires : tie.Need-replay-lines-requires
 replay-lines-requires c κs = search needs
 
--- src/writer.rt:170:1
 same-length : tie.Need-same-length
 same-length c = search needs
 
--- src/writer.rt:170:1
 same-length-2 : tie.Need-same-length-2
 same-length-2 c = search needs
 
--- src/writer.rt:170:1
 same-length-3 : tie.Need-same-length-3
 same-length-3 c = search needs
 
--- src/writer.rt:170:1
 same-length-4 : tie.Need-same-length-4
 same-length-4 c = search needs
 
--- src/writer.rt:170:1
-same-length-5 : tie.Need-same-length-5
-same-length-5 c = search needs
-
--- src/writer.rt:170:1
 returns-3 : tie.Need-returns-3
 returns-3 c = search needs
 
@@ -77,5 +56,4 @@ replay-in-spec =
     same-length-2
     same-length-3
     same-length-4
-    same-length-5
     returns-3)
