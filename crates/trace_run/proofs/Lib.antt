@@ -6,3 +6,4 @@ pub mod SentLaws
 pub mod FragLaws
 pub mod WriteLaws
 pub mod FollowLaws
+pub mod Unique

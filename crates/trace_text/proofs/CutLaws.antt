@@ -2,7 +2,7 @@
 use Prim.Native.Nat.{ℕ, _+_, _<_, _≤_, min}
 use mathlib.Core.Path.{_≡_, refl, sym, ap, subst, _∙_}
 use mathlib.Core.Bool.{Bool, true, false, cond}
-use mathlib.Core.List.{List, [], _∷_}
+use mathlib.Core.List.{List, [], _∷_, _++_}
 use native.Mathlib.Nat.{lt-irrefl}
 use native.Mathlib.Omega.{arith}
 use lib.Dec.{eqb}
@@ -53,3 +53,19 @@ cut-goes at (b ∷ s) n line h = go (eqb b 10) (not-back s (at + 1) (min n (leng
         → at < cond y (record { result = record { at = at + 1; held = n; ended = true }; first = line }) (cutOf (at + 1) s (min n (length line) + 1) (set line n b)) .result .at
     go true h = omega arith
     go false h = omega arith
+
+-- WHERE A PIECE ENDS DOESN'T MATTER: bytes that come in two pieces are cut as if they came in one. The second is gone on with, unless the
+-- line ended in the first.
+abbrev pub goneOn : Left1 Cut (List ℕ) → List ℕ → Left1 Cut (List ℕ)
+goneOn o b = cond (o .result .ended) o (cutOf (o .result .at) b (o .result .held) (o .first))
+
+pick : (y : Bool) (one more both : Left1 Cut (List ℕ)) (b : List ℕ) → one .result .ended ≡ true → both ≡ goneOn more b → cond y one both ≡ goneOn (cond y one more) b
+pick true one more both b e h = sym (ap (λ (t : Bool). cond t one (cutOf (one .result .at) b (one .result .held) (one .first))) e)
+pick false one more both b e h = h
+
+pub cut-append : (a b : List ℕ) (at n : ℕ) (line : List ℕ) → cutOf at (a ++ b) n line ≡ goneOn (cutOf at a n line) b
+cut-append [] b at n line = refl
+cut-append (x ∷ a) b at n line =
+    pick (eqb x 10) (record { result = record { at = at + 1; held = n; ended = true }; first = line })
+    (cutOf (at + 1) a (min n (length line) + 1) (set line n x)) (cutOf (at + 1) (a ++ b) (min n (length line) + 1) (set line n x)) b refl
+    (cut-append a b (at + 1) (min n (length line) + 1) (set line n x))
