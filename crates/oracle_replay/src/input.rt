@@ -137,7 +137,7 @@ fn left_after(b: u8, left: u64) -> u64
     left - 1
 }
 
-pub fn read_line(buf: &mut [u8], line: &mut [u64], input: Input) -> Line {
+pub(crate) fn read_line(buf: &mut [u8], line: &mut [u64], input: Input) -> Line {
     let mut at = input;
     let mut token = Token {
         started: false,

@@ -8,16 +8,16 @@ pub struct Seen {
     pub same: bool,
 }
 
-pub fn wide(b: u8) -> u64 {
+pub(crate) fn wide(b: u8) -> u64 {
     b as u64
 }
 
-pub fn bit(b: bool) -> u64 {
+pub(crate) fn bit(b: bool) -> u64 {
     if b { 1 } else { 0 }
 }
 
 // The number at a place; past the end, 0.
-pub fn at(line: &[u64], i: usize) -> u64 {
+pub(crate) fn at(line: &[u64], i: usize) -> u64 {
     if i < line.len() {
         return line[i];
     }
@@ -25,7 +25,7 @@ pub fn at(line: &[u64], i: usize) -> u64 {
 }
 
 // One number more, if there is room.
-pub fn put(line: &mut [u64], n: usize, x: u64) -> usize {
+pub(crate) fn put(line: &mut [u64], n: usize, x: u64) -> usize {
     if n < line.len() {
         line[n] = x;
         return n + 1;
@@ -34,7 +34,7 @@ pub fn put(line: &mut [u64], n: usize, x: u64) -> usize {
 }
 
 // A place so much further on. No line has 65,536 numbers.
-pub fn after(i: usize, more: usize) -> usize {
+pub(crate) fn after(i: usize, more: usize) -> usize {
     if 65536 <= i {
         return i;
     }
@@ -44,7 +44,7 @@ pub fn after(i: usize, more: usize) -> usize {
     i + more
 }
 
-pub fn sum(a: u64, b: u64) -> u64 {
+pub(crate) fn sum(a: u64, b: u64) -> u64 {
     if 9223372036854775807 < a {
         return a;
     }
@@ -55,7 +55,7 @@ pub fn sum(a: u64, b: u64) -> u64 {
 }
 
 // How many calls from the first on are as the crate's, once call i is compared.
-pub fn counted(same: u64, i: u64, all: bool) -> u64 {
+pub(crate) fn counted(same: u64, i: u64, all: bool) -> u64 {
     if !all {
         return same;
     }
@@ -66,7 +66,7 @@ pub fn counted(same: u64, i: u64, all: bool) -> u64 {
 }
 
 // A signed number, from its two's complement.
-pub fn number(line: &[u64], i: usize) -> SequenceNumber {
+pub(crate) fn number(line: &[u64], i: usize) -> SequenceNumber {
     let n = at(line, i);
     if n < 9223372036854775808 {
         return SequenceNumber::from_rank(n);
@@ -76,16 +76,16 @@ pub fn number(line: &[u64], i: usize) -> SequenceNumber {
 }
 
 // The lower half of a number.
-pub fn half(line: &[u64], i: usize) -> u32 {
+pub(crate) fn half(line: &[u64], i: usize) -> u32 {
     (at(line, i) % 4294967296) as u32
 }
 
-pub fn fragment(line: &[u64], i: usize) -> FragmentNumber {
+pub(crate) fn fragment(line: &[u64], i: usize) -> FragmentNumber {
     FragmentNumber(half(line, i))
 }
 
 // The eight words of a set.
-pub fn words_at(line: &[u64], i: usize) -> [u32; 8] {
+pub(crate) fn words_at(line: &[u64], i: usize) -> [u32; 8] {
     let a = half(line, i);
     let b = half(line, after(i, 1));
     let c = half(line, after(i, 2));
@@ -99,12 +99,12 @@ pub fn words_at(line: &[u64], i: usize) -> [u32; 8] {
 
 impl Seen {
     // All was as the crate's, and the line has no more than its `count` numbers.
-    pub fn is_all(self, count: usize) -> bool {
+    pub(crate) fn is_all(self, count: usize) -> bool {
         self.same & (self.at == count)
     }
 
     // The next number of the line is n.
-    pub fn expect(self, line: &[u64], n: u64) -> Seen {
+    pub(crate) fn expect(self, line: &[u64], n: u64) -> Seen {
         let i = self.at;
         Seen {
             at: after(i, 1),

@@ -197,7 +197,7 @@ fn replay_in(
 }
 
 // The reader that a block's first line tells of, and its calls.
-pub fn replay(buf: &mut [u8], room: &mut [u64], input: Input) -> Replayed {
+pub(crate) fn replay(buf: &mut [u8], room: &mut [u64], input: Input) -> Replayed {
     let calls = at(room, 2);
     let cap = at(room, 3) as usize;
     let mut unsent = [0u64; 1024];

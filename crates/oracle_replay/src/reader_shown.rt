@@ -183,7 +183,7 @@ fn questions_shown(
 }
 
 // The whole record.
-pub fn shown(
+pub(crate) fn shown(
     line: &[u64],
     head: ReaderProxy,
     unsent: &[u64],

@@ -198,7 +198,7 @@ fn fresh_writer(room: &[u64]) -> WriterSendBuffer {
 }
 
 // That writer, and its calls.
-pub fn replay(buf: &mut [u8], room: &mut [u64], input: Input) -> Replayed {
+pub(crate) fn replay(buf: &mut [u8], room: &mut [u64], input: Input) -> Replayed {
     let calls = at(room, 2);
     let fresh = fresh_writer(room);
     let slots = at(room, 9) as usize;

@@ -88,7 +88,13 @@ fn throughs_shown(line: &[u64], flow: WriterSendBuffer, seen: Seen) -> Seen {
 }
 
 // The whole buffer.
-pub fn shown(line: &[u64], flow: WriterSendBuffer, store: &[u8], lens: &[u64], seen: Seen) -> Seen {
+pub(crate) fn shown(
+    line: &[u64],
+    flow: WriterSendBuffer,
+    store: &[u8],
+    lens: &[u64],
+    seen: Seen,
+) -> Seen {
     let last = flow.last_change_sequence_number();
     let first = flow.first_change_sequence_number();
     let mut now = seen.expect(line, last.number.rank());

@@ -114,7 +114,7 @@ fn put_numbered(out: &mut [u8], at: usize, number: u32) -> usize {
     put_meaning(out, k, number)
 }
 
-pub fn put_explained(
+pub(crate) fn put_explained(
     out: &mut [u8],
     at: usize,
     lines: u64,
