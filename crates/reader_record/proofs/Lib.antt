@@ -3,3 +3,4 @@ pub mod Whole
 pub mod Kept
 pub mod Steps
 pub mod AllSent
+pub mod PendingGap
