@@ -2,5 +2,6 @@
 pub mod Whole
 pub mod Kept
 pub mod Steps
-pub mod AllSent
 pub mod PendingGap
+pub mod Asked
+pub mod AllSent
