@@ -4,25 +4,9 @@ use trace_text::answer::put_byte;
 use trace_text::answer::put_number;
 use trace_text::answer::put_text;
 
-// What a number returned means.
-fn put_meaning(out: &mut [u8], at: usize, number: u32) -> usize {
+// What a number from 8 on means.
+fn put_later_meaning(out: &mut [u8], at: usize, number: u32) -> usize {
     match number {
-        0 => put_text(out, at, b"done"),
-        1 => put_text(out, at, b"refused: a record or buffer isn't coherent"),
-        2 => put_text(out, at, b"refused: a number is out of its range"),
-        3 => put_text(out, at, b"refused: the set spans more than 256 numbers"),
-        4 => put_text(
-            out,
-            at,
-            b"refused: the payload is longer than a slot of 16 bytes",
-        ),
-        5 => put_text(out, at, b"refused: the sequence numbers are used up"),
-        6 => put_text(
-            out,
-            at,
-            b"refused: the write would block, since the window or the backlog is full",
-        ),
-        7 => put_text(out, at, b"refused: the store is full"),
         8 => put_text(
             out,
             at,
@@ -51,6 +35,29 @@ fn put_meaning(out: &mut [u8], at: usize, number: u32) -> usize {
             at,
             b"refused: the line isn't understood, or can't come here",
         ),
+    }
+}
+
+// What a number returned means.
+fn put_meaning(out: &mut [u8], at: usize, number: u32) -> usize {
+    match number {
+        0 => put_text(out, at, b"done"),
+        1 => put_text(out, at, b"refused: a record or buffer isn't coherent"),
+        2 => put_text(out, at, b"refused: a number is out of its range"),
+        3 => put_text(out, at, b"refused: the set spans more than 256 numbers"),
+        4 => put_text(
+            out,
+            at,
+            b"refused: the payload is longer than a slot of 16 bytes",
+        ),
+        5 => put_text(out, at, b"refused: the sequence numbers are used up"),
+        6 => put_text(
+            out,
+            at,
+            b"refused: the write would block, since the window or the backlog is full",
+        ),
+        7 => put_text(out, at, b"refused: the store is full"),
+        _ => put_later_meaning(out, at, number),
     }
 }
 

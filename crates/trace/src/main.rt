@@ -9,9 +9,10 @@ use explain::put_explained;
 use libc::STDERR_FILENO;
 use libc::STDIN_FILENO;
 use libc::STDOUT_FILENO;
+use trace_answers::follow_held;
+use trace_answers::put_followed;
 use trace_run::Followed;
 use trace_run::Trace;
-use trace_text::put_answer;
 use trace_text::take_line;
 
 // What goes on from line to line: the trace, how many bytes of the line have come, the lines answered, and how much output waits.
@@ -79,13 +80,7 @@ impl Run {
             let too_long = line.len() < self.held;
             return put_explained(out, at, lines, line, too_long, followed);
         }
-        let answer = followed.answer;
-        let trace = followed.trace;
-        let flow = trace.flow;
-        let last = flow.last.rank();
-        let first = flow.first.rank();
-        let acked = flow.acked.rank();
-        put_answer(out, at, lines, answer.number as u64, last, first, acked)
+        put_followed(out, at, lines, followed)
     }
 
     fn after(self, followed: Followed, out: &mut [u8], line: &[u8]) -> Run {
@@ -115,11 +110,9 @@ impl Run {
         let trace = r.trace;
         let start = 0;
         let held = r.held;
-        if line.len() < held {
-            return r.after(trace.not_understood(), out, line);
-        }
-        let followed = trace.follow(&line[start..held], store, large, small);
-        r.after(followed, out, &line[start..held])
+        let followed = follow_held(trace, line, held, store, large, small);
+        let shown = smaller(held, line.len());
+        r.after(followed, out, &line[start..shown])
     }
 
     fn cut(self, held: usize) -> Run {

@@ -1,0 +1,4 @@
+-- The laws of `trace_answers`.
+pub mod Laws
+pub mod Before
+pub mod Unique

@@ -1,0 +1,17 @@
+-- Two results that a promise allows are equal. Assumes nothing.
+use Prim.Native.Nat.{ℕ}
+use mathlib.Core.Path.{_≡_}
+use mathlib.Core.List.{List}
+use Rattle.numbers.specs.Promise.{Gives1, Gives3}
+use Rattle.numbers.proofs.One.{one1, one3}
+use Rattle.trace_text.specs.Answers.{putOf}
+use Rattle.trace_run.specs.declared.state.Trace.{Trace}
+use Rattle.trace_run.specs.declared.state.Followed.{Followed}
+use Rattle.trace_answers.specs.Shown.{followHeld, shownText}
+
+pub one-followed : (held : ℕ) (line : List ℕ) (t : Trace) (store large small : List ℕ) (f g : Followed) (u v w x y z : List ℕ) → Gives3 f u v w (followHeld held line t store large small)
+    → Gives3 g x y z (followHeld held line t store large small) → (f ≡ g) × (u ≡ x) × (v ≡ y) × (w ≡ z)
+one-followed held line t store large small f g u v w x y z p q = one3 p q
+
+pub one-shown : (at n : ℕ) (f : Followed) (out : List ℕ) (r s : ℕ) (u v : List ℕ) → Gives1 r u (putOf at (shownText n f) out) → Gives1 s v (putOf at (shownText n f) out) → (r ≡ s) × (u ≡ v)
+one-shown at n f out r s u v p q = one1 p q

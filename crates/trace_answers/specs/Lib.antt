@@ -1,0 +1,2 @@
+-- The definitions of `trace_answers`.
+pub mod Shown
