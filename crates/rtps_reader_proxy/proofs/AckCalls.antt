@@ -4,6 +4,7 @@ use mathlib.Core.Path.{_≡_, refl, sym, ap, subst, _∙_}
 use mathlib.Core.Bool.{Bool, true, false, not, cond, _&&_, _||_, true≢false}
 use mathlib.Core.List.{List, [], _∷_, _++_}
 use native.Mathlib.Omega.{arith}
+use native.Mathlib.Numerals.{add-one}
 use lib.Dec.{leb, ltb, eqb}
 use lib.ListN.{length, take, drop, length-take}
 use lib.Seq.{length-take-le}
@@ -12,9 +13,10 @@ use Rattle.sets.specs.Sets.{From, only, between, union, smallest}
 use Rattle.sets.proofs.Bools.{and-left, and-right}
 use Rattle.sets.proofs.Has.{From-weak}
 use Rattle.numbers.specs.Number.{topNumber, rankOf, negative, inRange, numberAt}
-use Rattle.numbers.specs.Refusals.{answerOf, done, unless}
+use Rattle.numbers.specs.Refusals.{answerOf, rowsOf, done, unless}
 use Rattle.numbers.specs.Promise.{Left1, Left2, Gives1, Gives2}
 use Rattle.numbers.specs.declared.answer.Answer.{Answer}
+use Rattle.numbers.specs.declared.answer.Rows.{Rows}
 use Rattle.numbers.specs.declared.sequence_number.SequenceNumber.{SequenceNumber}
 use Rattle.numbers.proofs.Refused.{clear, is-refused, is-done, gives2}
 use Rattle.numbers.proofs.Ranks.{in-range}
@@ -28,7 +30,7 @@ use Rattle.rtps_reader_proxy.specs.declared.proxy.ReaderProxy.{ReaderPro
 use Rattle.rtps_reader_proxy.specs.declared.acks.AckNacked.{AckNacked}
 use Rattle.rtps_reader_proxy.specs.Reader.{Reader, baseOf, isLate, isAhead, staying, wanted, ackedAfter, leftOut}
 use Rattle.rtps_reader_proxy.specs.Record.{headOk, unsentOk, gapsOk, gapFloor}
-use Rattle.rtps_reader_proxy.specs.Acks.{ackRows, ackNackedOf, ackLeaves, acked, byBoth, headAfter, runLeft, Stayable, Joinable, joining, Ackable}
+use Rattle.rtps_reader_proxy.specs.Acks.{ackRows, ackNackedOf, ackLeaves, acked, byBoth, headAfter, runLeft, Stayable, Joinable, joining, Ackable, ackedWith}
 use Rattle.rtps_reader_proxy.proofs.UnsentCalls.{UnsentIs, unsent-is}
 use Rattle.rtps_reader_proxy.proofs.GapCalls.{GapsAre, gaps-are}
 
@@ -106,33 +108,51 @@ module _ (h : ReaderProxy) (unsent gaps : List ℕ) (set : SequenceNumberSet) (l
         few true = omega (arith, length-take (h .«unsent_count») unsent)
         few false = omega (arith, only-le (λ n. leb (baseOf base) n && leb n last) old, length-take (h .«unsent_count») unsent)
 
-    module _ (total left kept : ℕ) (u g : List ℕ) (n : SequenceNumber)
+    module _ (total kept : ℕ) (u g : List ℕ) (r : AckNacked)
         (t : Gives1 total u (runLeft (length (joining low last set (take c v))) (length v) (smallest (length v) (joining low last set (take c v)))))
-        (x : left ≡ total - h .«unsent_cap») (w : Gives1 kept g (inRoom (fromOn low) (h .«gap_count») gaps)) (en : n ≡ numberAt low) where
+        (w : Gives1 kept g (inRoom (fromOn low) (h .«gap_count») gaps)) (er : r ≡ ackedWith low total kept h) where
       all-is : joining low last set (take c v) ≡ wanted last B (members (sequenceSet set)) A old
       all-is = ap (λ (y : ℕ). joining y last set (take c v)) low-is ∙ ap (joining (ackedAfter A B) last set) run-kept
 
-      pub left-few : left ≤ total
-      left-few = omega arith
-
-      pub acknowledged-is : Gives2 (record { answer = done; «left_out» = left; proxy = record { «all_acked_before» = n; «unsent_cap» = h .«unsent_cap»; «unsent_count» = total - left; «gap_prefix_end» = h .«gap_prefix_end»; «gap_count» = kept; «frag_count» = h .«frag_count» } })
-          u g (ackLeaves set last h unsent gaps)
+      pub acknowledged-is : Gives2 r u g (ackLeaves set last h unsent gaps)
       acknowledged-is =
           let tl : total ≡ length (wanted last B (members (sequenceSet set)) A old) = t .result ∙ ap length all-is in
-          let lo : left ≡ leftOut last B (members (sequenceSet set)) (byBoth h unsent gaps) = x ∙ ap (λ (y : ℕ). y - h .«unsent_cap») tl in
-          let cu : total - left ≡ length (smallest (h .«unsent_cap») (wanted last B (members (sequenceSet set)) A old)) = omega (arith, length-take (h .«unsent_cap») (wanted last B (members (sequenceSet set)) A old)) in
+          let lo : total - h .«unsent_cap» ≡ leftOut last B (members (sequenceSet set)) (byBoth h unsent gaps) = ap (λ (y : ℕ). y - h .«unsent_cap») tl in
+          let cu : total - (total - h .«unsent_cap») ≡ length (smallest (h .«unsent_cap») (wanted last B (members (sequenceSet set)) A old)) = omega (arith, length-take (h .«unsent_cap») (wanted last B (members (sequenceSet set)) A old)) in
           let fr : From 1 held = From-weak 1 (suc (gapFloor h)) held (omega arith) (gs .run .rises .from) in
           let y = in-room (gapFloor h) (h .«gap_count») gaps (fromOn low) (only (leb low) held) (gs .run) (from-only low 1 held fr) (omega (arith, only-le (leb low) held, length-take (h .«gap_count») gaps)) kept g w in
           let gk : only (leb low) held ≡ only (leb (ackedAfter A B)) held = ap (λ (z : ℕ). only (leb z) held) low-is in
           let ck : kept ≡ length (only (leb (ackedAfter A B)) held) = y .0 ∙ ap length gk in
-          let nk : n ≡ numberAt (ackedAfter A B) = en ∙ ap numberAt low-is in
           record {
-            result = rw (cu, lo, ck, nk);
+            result = er ∙ rw (cu, lo, ck, low-is);
             first = t .first ∙ ap (λ (z : ℕ). roomOf z (smallest z (joining low last set (take c v)))) long-kept ∙ ap (λ (z : List ℕ). roomOf (h .«unsent_cap») (smallest (h .«unsent_cap») z)) all-is;
             second = y .1 ∙ ap (λ (z : ℕ). roomOf z (only (leb low) held)) (gs .long) ∙ ap (roomOf 256) gk;
           }
 
 -- THE WHOLE CALL
+
+-- its rows, by what the code found
+pub ack-rows : (set : SequenceNumberSet) (last : SequenceNumber) (h : ReaderProxy) (unsent gaps : List ℕ) (a : Answer) (none : Rows) (u g w n : Bool) (end b m : ℕ)
+    → none ≡ rowsOf [] → u ≡ unsentOk h unsent → g ≡ gapsOk h gaps → w ≡ inRange last topNumber → n ≡ negative (set .base) → end ≡ rankOf last → b ≡ rankOf (set .base) → m ≡ max b 1
+    → a ≡ answerOf (record {
+      limit = none .limit;
+      incoherent = not (u && g);
+      bits = ltb 256 (set .count);
+      range = n || not w;
+      reader = none .reader;
+      ahead = ltb (end + 1) m;
+      payload = none .payload;
+      «used_up» = none .«used_up»;
+      «would_block» = none .«would_block»;
+      «store_full» = none .«store_full»;
+      «readers_full» = none .«readers_full»;
+      «gaps_full» = none .«gaps_full»;
+      «frags_full» = none .«frags_full»;
+      nothing = none .nothing;
+    })
+    → a ≡ answerOf (ackRows h unsent gaps set last)
+ack-rows set last h unsent gaps a none u g w n end b m e0 eu eg ew en ee eb em q = q ∙ rw (e0, eu, eg, ew, en, em, ee, eb, add-one)
+
 module _ (set : SequenceNumberSet) (last : SequenceNumber) (h : ReaderProxy) (unsent gaps : List ℕ) (a : Answer) (q : a ≡ answerOf (ackRows h unsent gaps set last)) where
   abbrev not-acked : Answer → Left2 AckNacked (List ℕ) (List ℕ)
   not-acked x = record { result = record { answer = x; «left_out» = 0; proxy = h }; first = unsent; second = gaps }

@@ -42,8 +42,8 @@ use Rattle.rtps_reader_proxy.specs.declared.proxy.Changed.{Changed}
 use Rattle.rtps_reader_proxy.specs.declared.fragments.NextFragRequested.{NextFragRequested}
 use Rattle.rtps_reader_proxy.specs.declared.fragments.Told.{Told}
 use Rattle.rtps_reader_proxy.specs.Reader.{Reader, needsSlot, fragsRequested, fragSent}
-use Rattle.rtps_reader_proxy.specs.Record.{headOk}
-use Rattle.rtps_reader_proxy.specs.Fragments.{fragsOk, countFrags, entriesIn, byFrags, fragsBy, cannotAsk, noSlot, nextFragOf, repairOf}
+use Rattle.rtps_reader_proxy.specs.Record.{headOk, changed}
+use Rattle.rtps_reader_proxy.specs.Fragments.{fragsOk, countFrags, entriesIn, byFrags, fragsBy, cannotAsk, noSlot, fragsRequestedOf, nextFragOf, nextPiece, repairOf}
 use Rattle.rtps_reader_proxy.proofs.GapCalls.{above}
 
 -- the samples of the entries are those in the room
@@ -156,62 +156,86 @@ module _ (h : ReaderProxy) (samples words : List ℕ) (rows : List Row) (a : Ans
     frags-known = and-right (headOk h) (coherentRooms (h .«frag_count») samples words) (not-false (fragsOk h samples words) (clear frag-rows a q z .incoherent))
 
     -- rooms that pass the check and hold what the reader's step f leaves
-    frags-done : (f : Reader → Reader) (n : ℕ) (S W : List ℕ) (p : ReaderProxy) → p ≡ countFrags n h → Words W → coherentRooms n S W ≡ true → entriesOf n S W ≡ f (byFrags h samples words) .frags
-        → Gives2 (record { answer = a; proxy = p }) S W (fragsBy rows f h samples words)
-    frags-done f n S W p e w k v =
-        let r = rooms-are n S W k w in
-        let c : n ≡ length (f (byFrags h samples words) .frags) = r .0 ∙ ap length v in
-        gives2 (record { answer = a; proxy = p }) S W (is-changed f) (fragsBy rows f h samples words) (is-done frag-rows a q not-changed (is-changed f) z)
-        (rw (done-is a z, e, c)) (r .1 ∙ ap samplesRoom v) (r .2 ∙ ap wordsRoom v)
+    frags-done : (f : Reader → Reader) (n : ℕ) (S W : List ℕ) (r : Changed) → r ≡ changed a (countFrags n h) → Words W → coherentRooms n S W ≡ true → entriesOf n S W ≡ f (byFrags h samples words) .frags
+        → Gives2 r S W (fragsBy rows f h samples words)
+    frags-done f n S W r e w k v =
+        let y = rooms-are n S W k w in
+        let c : n ≡ length (f (byFrags h samples words) .frags) = y .0 ∙ ap length v in
+        gives2 r S W (is-changed f) (fragsBy rows f h samples words) (is-done frag-rows a q not-changed (is-changed f) z)
+        (e ∙ rw (done-is a z, c)) (y .1 ∙ ap samplesRoom v) (y .2 ∙ ap wordsRoom v)
 
-    pub sent-done : (m f n : ℕ) (S W : List ℕ) (p : ReaderProxy) → p ≡ countFrags n h → Words W → Gives2 n S W (markedIn m f (h .«frag_count») samples words)
-        → Gives2 (record { answer = a; proxy = p }) S W (fragsBy rows (fragSent m f) h samples words)
-    sent-done m f n S W p e w g =
+    pub sent-done : (m f n : ℕ) (S W : List ℕ) (r : Changed) → r ≡ changed a (countFrags n h) → Words W → Gives2 n S W (markedIn m f (h .«frag_count») samples words)
+        → Gives2 r S W (fragsBy rows (fragSent m f) h samples words)
+    sent-done m f n S W r e w g =
         let y = marked-again (h .«frag_count») samples words m f frags-known in
-        frags-done (fragSent m f) n S W p e w (rw (g .result, g .first, g .second) (y .0)) (rw (g .result, g .first, g .second) (y .1))
+        frags-done (fragSent m f) n S W r e w (rw (g .result, g .first, g .second) (y .0)) (rw (g .result, g .first, g .second) (y .1))
 
-    pub requested-done : (m : SequenceNumber) (set : FragmentNumberSet) (n : ℕ) (S W : List ℕ) (p : ReaderProxy) → cannotAsk m set ≡ false → noSlot (rankOf m) set h samples words ≡ false
-        → p ≡ countFrags n h → Words W → Gives2 n S W (askedIn (rankOf m) (askable set) (h .«frag_count») samples words)
-        → Gives2 (record { answer = a; proxy = p }) S W (fragsBy rows (fragsRequested (rankOf m) (members (fragmentSet set))) h samples words)
-    requested-done m set n S W p ca ns e w g =
+    pub requested-done : (m : SequenceNumber) (set : FragmentNumberSet) (n : ℕ) (S W : List ℕ) (r : Changed) → cannotAsk m set ≡ false → noSlot (rankOf m) set h samples words ≡ false
+        → r ≡ changed a (countFrags n h) → Words W → Gives2 n S W (askedIn (rankOf m) (askable set) (h .«frag_count») samples words)
+        → Gives2 r S W (fragsBy rows (fragsRequested (rankOf m) (members (fragmentSet set))) h samples words)
+    requested-done m set n S W r ca ns e w g =
         let k = can-ask m set ca in
         let y =
         request-again (h .«frag_count») samples words frags-known (rankOf m) (askable set) (askable-rises set) (askable-within set) (k .low) (k .high)
         (ap (λ (l : List ℕ). leb 16 (h .«frag_count») && needsSlot (rankOf m) l (byFrags h samples words)) (k .all) ∙ ns) in
-        frags-done (fragsRequested (rankOf m) (members (fragmentSet set))) n S W p e w (rw (g .result, g .first, g .second) (y .0))
+        frags-done (fragsRequested (rankOf m) (members (fragmentSet set))) n S W r e w (rw (g .result, g .first, g .second) (y .0))
         (rw (g .result, g .first, g .second) (y .1) ∙ ap (λ (l : List ℕ). requested (rankOf m) l (entriesIn h samples words)) (k .all))
 
--- the next fragment
-module _ (at : Cursor) (h : ReaderProxy) (samples words : List ℕ) (next : NextPiece) (a : Answer) (v : next ≡ nextOf (at .from) (entriesIn h samples words))
-    (q : a ≡ answerOf (rowsOf (row 1 (not (fragsOk h samples words)) ∷ row 14 (next .none) ∷ []))) where
-  abbrev next-rows : Rows
-  next-rows = rowsOf (row 1 (not (fragsOk h samples words)) ∷ row 14 (eqb (nextFragment (at .from) (entriesIn h samples words)) 0) ∷ [])
+-- a request
+module _ (n : SequenceNumber) (set : FragmentNumberSet) (h : ReaderProxy) (samples words : List ℕ) (a : Answer) where
+  abbrev request-rows : Bool → Bool → List Row
+  request-rows range full = row 3 (ltb 256 (set .count)) ∷ row 2 range ∷ row 10 full ∷ []
 
-  abbrev no-next : Answer → NextFragRequested
-  no-next x = record { answer = x; sample = numberAt 0; fragment = fragmentAt 0; cursor = cursorAt 0 }
+  -- its rows, by what the code found
+  pub rows-found : (k : ℕ) (range full : Bool) → range ≡ cannotAsk n set → k ≡ rankOf n → full ≡ noSlot k set h samples words
+      → a ≡ answerOf (rowsOf (row 1 (not (fragsOk h samples words)) ∷ request-rows range full))
+      → a ≡ answerOf (rowsOf (row 1 (not (fragsOk h samples words)) ∷ request-rows (cannotAsk n set) (noSlot (rankOf n) set h samples words)))
+  rows-found k range full er ek ef q =
+      q ∙ ap (λ (t : Bool). answerOf (rowsOf (row 1 (not (fragsOk h samples words)) ∷ request-rows t full))) er
+      ∙ ap (λ (t : Bool). answerOf (rowsOf (row 1 (not (fragsOk h samples words)) ∷ request-rows (cannotAsk n set) t))) (ef ∙ ap (λ (x : ℕ). noSlot x set h samples words) ek)
 
-  abbrev this-next : NextFragRequested
-  this-next =
-      record {
-        answer = done;
-        sample = numberAt (nextSample (entriesIn h samples words));
-        fragment = fragmentAt (nextFragment (at .from) (entriesIn h samples words));
-        cursor = cursorPast (nextFragment (at .from) (entriesIn h samples words));
-      }
+  module _ (q : a ≡ answerOf (rowsOf (row 1 (not (fragsOk h samples words)) ∷ request-rows (cannotAsk n set) (noSlot (rankOf n) set h samples words)))) where
+    abbrev these : List Row
+    these = request-rows (cannotAsk n set) (noSlot (rankOf n) set h samples words)
 
-  by-rows : a ≡ answerOf next-rows
-  by-rows = q ∙ ap (λ (x : NextPiece). answerOf (rowsOf (row 1 (not (fragsOk h samples words)) ∷ row 14 (x .none) ∷ []))) v
+    pub request-refused : (a .number ≡ 0 → ⊥) → Gives2 (record { answer = a; proxy = h }) samples words (fragsRequestedOf n set h samples words)
+    request-refused z = frags-refused h samples words these a q (fragsRequested (rankOf n) (members (fragmentSet set))) z
 
-  pub next-refused : (a .number ≡ 0 → ⊥) → no-next a ≡ nextFragOf at h samples words
-  next-refused z = is-refused next-rows a by-rows no-next this-next z
+    pub request-done : a .number ≡ 0 → (k c : ℕ) (S W : List ℕ) (r : Changed) → k ≡ rankOf n → r ≡ changed a (countFrags c h) → Words W
+        → Gives2 c S W (askedIn k (askable set) (h .«frag_count») samples words) → Gives2 r S W (fragsRequestedOf n set h samples words)
+    request-done z k c S W r ek e w g =
+        let free = clear (rowsOf (row 1 (not (fragsOk h samples words)) ∷ these)) a q z in
+        requested-done h samples words these a q z n set c S W r (free .range) (free .frags-full) e w
+        (subst (λ (x : ℕ). Gives2 c S W (askedIn x (askable set) (h .«frag_count») samples words)) ek g)
 
-  pub next-done : a .number ≡ 0
-      → _≡_ {A = NextFragRequested} (record { answer = a; sample = numberAt (next .sample); fragment = fragmentAt (next .fragment); cursor = cursorPast (next .fragment) }) (nextFragOf at h samples words)
-  next-done z =
-      let n = clear next-rows a by-rows z .nothing in
-      let s : next .sample ≡ nextSample (entriesIn h samples words) = ap (λ (x : NextPiece). x .sample) v ∙ ap (λ (t : Bool). cond t 0 (nextSample (entriesIn h samples words))) n in
-      let f : next .fragment ≡ nextFragment (at .from) (entriesIn h samples words) = ap (λ (x : NextPiece). x .fragment) v in
-      rw (done-is a z, s, f) (is-done next-rows a by-rows no-next this-next z)
+-- the answer of a question for the next fragment
+module _ (rows : Rows) (n f : ℕ) (a : Answer) (q : a ≡ answerOf rows) where
+  abbrev no-piece : Answer → NextFragRequested
+  no-piece x = record { answer = x; sample = numberAt 0; fragment = fragmentAt 0; cursor = cursorAt 0 }
+
+  abbrev this-piece : Answer → NextFragRequested
+  this-piece x = record { answer = x; sample = numberAt n; fragment = fragmentAt f; cursor = cursorPast f }
+
+  pub piece-refused : (a .number ≡ 0 → ⊥) → no-piece a ≡ nextPiece rows n f
+  piece-refused z = is-refused rows a q no-piece (this-piece done) z
+
+  pub piece-found : a .number ≡ 0 → this-piece a ≡ nextPiece rows n f
+  piece-found z = ap this-piece (done-is a z) ∙ is-done rows a q no-piece (this-piece done) z
+
+-- the next fragment: where none is found, its sample doesn't matter
+pub next-piece : (at : Cursor) (h : ReaderProxy) (samples words : List ℕ) (next : NextPiece) → next ≡ nextOf (at .from) (entriesIn h samples words)
+    → nextPiece (rowsOf (row 1 (not (fragsOk h samples words)) ∷ row 14 (next .none) ∷ [])) (next .sample) (next .fragment) ≡ nextFragOf at h samples words
+next-piece at h samples words next v =
+    ap (λ (x : NextPiece). nextPiece (rowsOf (row 1 (not (fragsOk h samples words)) ∷ row 14 (x .none) ∷ [])) (x .sample) (x .fragment)) v
+    ∙ go (not (fragsOk h samples words)) (eqb (nextFragment (at .from) (entriesIn h samples words)) 0)
+  where
+    go : (i t : Bool)
+        → nextPiece (rowsOf (row 1 i ∷ row 14 t ∷ [])) (cond t 0 (nextSample (entriesIn h samples words))) (nextFragment (at .from) (entriesIn h samples words))
+        ≡ nextPiece (rowsOf (row 1 i ∷ row 14 t ∷ [])) (nextSample (entriesIn h samples words)) (nextFragment (at .from) (entriesIn h samples words))
+    go true true = refl
+    go true false = refl
+    go false true = refl
+    go false false = refl
 
 -- whether any is requested
 module _ (h : ReaderProxy) (samples words : List ℕ) (a : Answer) (q : a ≡ answerOf (rowsOf (row 1 (not (fragsOk h samples words)) ∷ []))) where

@@ -9,19 +9,20 @@ use native.Mathlib.Nat.{lt-irrefl}
 use lib.Dec.{leb, ltb, eqb}
 use lib.ListN.{length, take, length-take}
 use lib.Seq.{length-take-le}
-use borrow.Author.Tests.{not-false, not-true, eqb-true, leb-true, leb-false, le-leb, lt-leb, ltb-true, ltb-false, ne-eqb}
-use Rattle.numbers.specs.Number.{topNumber, rankOf, inRange, numberAt}
+use borrow.Author.Tests.{not-false, not-true, eqb-true, eqb-false, leb-true, leb-false, le-leb, lt-leb, ltb-true, ltb-false, ne-eqb}
+use Rattle.numbers.specs.Number.{topNumber, rankOf, isSample, inRange, numberAt}
 use Rattle.numbers.specs.Refusals.{Row, row, rowsOf, answerOf, done, unless}
 use Rattle.numbers.specs.Promise.{Left1, Gives1}
 use Rattle.numbers.specs.declared.answer.Answer.{Answer}
 use Rattle.numbers.specs.declared.answer.Rows.{Rows}
+use Rattle.numbers.specs.declared.sequence_number.SequenceNumber.{SequenceNumber}
 use Rattle.numbers.specs.Cursor.{nextNumber}
 use Rattle.numbers.specs.declared.cursor.Cursor.{Cursor}
 use Rattle.numbers.proofs.Next.{next-same}
 use Rattle.numbers.proofs.Refused.{clear, done-is, is-refused, is-done, gives1}
 use Rattle.numbers.proofs.Ranks.{range-back}
 use Rattle.sets.specs.Sets.{From, has, insert, only, empty, firstOr}
-use Rattle.sets.proofs.Bools.{and-left, and-right, decide}
+use Rattle.sets.proofs.Bools.{and-left, and-right, decide, neither}
 use Rattle.sets.proofs.Has.{From-weak}
 use Rattle.rising.specs.Runs.{runOk, roomOf, inRoom, insertWithin, fromOn}
 use Rattle.rising.proofs.Meaning.{RunIs, run-is, in-room, from-only, room-is}
@@ -29,8 +30,8 @@ use Rattle.rising.proofs.Changes.{only-le, insert-le, first-is}
 use Rattle.rtps_reader_proxy.specs.declared.proxy.ReaderProxy.{ReaderProxy}
 use Rattle.rtps_reader_proxy.specs.declared.proxy.Changed.{Changed}
 use Rattle.rtps_reader_proxy.specs.Reader.{Reader, needsRoom, gapInserted, gapUpTo, nextGap}
-use Rattle.rtps_reader_proxy.specs.Record.{headOk, gapsOk, gapFloor, seen, gapRoom}
-use Rattle.rtps_reader_proxy.specs.Gaps.{countGaps, byGaps, gapsBy, nextGapOf}
+use Rattle.rtps_reader_proxy.specs.Record.{headOk, gapsOk, gapFloor, seen, gapRoom, changed}
+use Rattle.rtps_reader_proxy.specs.Gaps.{countGaps, countMembers, byGaps, gapsBy, beyond, gapInsertedOf, nextGapOf}
 
 -- what the check of the head says of the prefix end
 pub head-prefix : (h : ReaderProxy) → headOk h ≡ true → inRange (h .«gap_prefix_end») topNumber ≡ true
@@ -90,20 +91,24 @@ module _ (h : ReaderProxy) (gaps : List ℕ) (rows : List Row) (a : Answer) (q :
     rising : From 1 old
     rising = From-weak 1 (suc (gapFloor h)) old (omega arith) (gaps-known .run .rises .from)
 
-    gaps-done : (f : Reader → Reader) (g : List ℕ → List ℕ) (prefix n : ℕ) (u : List ℕ) (p : ReaderProxy) → p ≡ countGaps prefix n h → prefix ≡ f (byGaps h gaps) .prefix
+    gaps-done : (f : Reader → Reader) (g : List ℕ → List ℕ) (prefix n : ℕ) (u : List ℕ) (r : Changed) → r ≡ changed a (countGaps prefix n h) → prefix ≡ f (byGaps h gaps) .prefix
         → Gives1 n u (inRoom g (h .«gap_count») gaps) → g old ≡ f (byGaps h gaps) .gaps → length (f (byGaps h gaps) .gaps) ≤ length gaps
-        → Gives1 (record { answer = a; proxy = p }) u (gapsBy rows f h gaps)
-    gaps-done f g prefix n u p e d k w l =
+        → Gives1 r u (gapsBy rows f h gaps)
+    gaps-done f g prefix n u r e d k w l =
         let y = in-room (gapFloor h) (h .«gap_count») gaps g (f (byGaps h gaps) .gaps) (gaps-known .run) w l n u k in
-        gives1 (record { answer = a; proxy = p }) u (is-changed f) (gapsBy rows f h gaps) (is-done gap-rows a q not-changed (is-changed f) z)
-        (rw (done-is a z, e, d, y .0)) (y .1 ∙ ap (λ (m : ℕ). roomOf m (f (byGaps h gaps) .gaps)) (gaps-known .long))
+        gives1 r u (is-changed f) (gapsBy rows f h gaps) (is-done gap-rows a q not-changed (is-changed f) z)
+        (e ∙ rw (done-is a z, d, y .0)) (y .1 ∙ ap (λ (m : ℕ). roomOf m (f (byGaps h gaps) .gaps)) (gaps-known .long))
 
     -- "end 0 changes nothing", and a lower end neither: the members are all above it
-    pub up-to-done : (end prefix n : ℕ) (u : List ℕ) (p : ReaderProxy) → p ≡ countGaps prefix n h → prefix ≡ max (rankOf (h .«gap_prefix_end»)) end
-        → Gives1 n u (inRoom (fromOn (end + 1)) (h .«gap_count») gaps) → Gives1 (record { answer = a; proxy = p }) u (gapsBy rows (gapUpTo end) h gaps)
-    up-to-done end prefix n u p e d k =
-        gaps-done (gapUpTo end) (fromOn (end + 1)) prefix n u p e d k (from-only (end + 1) 1 old rising ∙ above end old)
+    pub up-to-done : (end n : ℕ) (u : List ℕ) (r : Changed) → r ≡ changed a (countGaps (max (rankOf (h .«gap_prefix_end»)) end) n h)
+        → Gives1 n u (inRoom (fromOn (end + 1)) (h .«gap_count») gaps) → Gives1 r u (gapsBy rows (gapUpTo end) h gaps)
+    up-to-done end n u r e k =
+        gaps-done (gapUpTo end) (fromOn (end + 1)) (max (rankOf (h .«gap_prefix_end»)) end) n u r e refl k (from-only (end + 1) 1 old rising ∙ above end old)
         (omega (arith, only-le (ltb end) old, old-few))
+
+    -- the prefix end is a number in its range
+    prefix-back : numberAt (rankOf (h .«gap_prefix_end»)) ≡ h .«gap_prefix_end»
+    prefix-back = range-back (h .«gap_prefix_end») topNumber (omega arith) (head-prefix h (gaps-known .head))
 
     -- a member that takes no room
     pub no-room-done : (m : ℕ) → needsRoom m (byGaps h gaps) ≡ false → Gives1 (record { answer = a; proxy = h }) gaps (gapsBy rows (gapInserted m) h gaps)
@@ -111,19 +116,18 @@ module _ (h : ReaderProxy) (gaps : List ℕ) (rows : List Row) (a : Answer) (q :
         let k = gaps-known in
         let n : cond (needsRoom m (byGaps h gaps)) (insert m old) old ≡ old = ap (λ (t : Bool). cond t (insert m old) old) f in
         let c : length old ≡ h .«gap_count» = length-take-le (h .«gap_count») gaps (k .run .fits) in
-        let b : numberAt (rankOf (h .«gap_prefix_end»)) ≡ h .«gap_prefix_end» = range-back (h .«gap_prefix_end») topNumber (omega arith) (head-prefix h (k .head)) in
         let r : gaps ≡ roomOf 256 old = room-is (gapFloor h) (h .«gap_count») gaps (k .run) ∙ ap (λ (x : ℕ). roomOf x old) (k .long) in
         gives1 (record { answer = a; proxy = h }) gaps (is-changed (gapInserted m)) (gapsBy rows (gapInserted m) h gaps) (is-done gap-rows a q not-changed (is-changed (gapInserted m)) z)
-        (rw (done-is a z, n, c, b)) (r ∙ ap (roomOf 256) (sym n))
+        (rw (done-is a z, n, c, prefix-back)) (r ∙ ap (roomOf 256) (sym n))
 
     -- one that does, and finds it
-    pub insert-done : (m prefix n : ℕ) (u : List ℕ) (p : ReaderProxy) → needsRoom m (byGaps h gaps) ≡ true → h .«gap_count» < 256 → p ≡ countGaps prefix n h → prefix ≡ rankOf (h .«gap_prefix_end»)
-        → Gives1 n u (inRoom (insertWithin (length gaps) m) (h .«gap_count») gaps) → Gives1 (record { answer = a; proxy = p }) u (gapsBy rows (gapInserted m) h gaps)
-    insert-done m prefix n u p f few e d k =
+    pub insert-done : (m n : ℕ) (u : List ℕ) (r : Changed) → needsRoom m (byGaps h gaps) ≡ true → h .«gap_count» < 256 → r ≡ changed a (countMembers n h)
+        → Gives1 n u (inRoom (insertWithin (length gaps) m) (h .«gap_count») gaps) → Gives1 r u (gapsBy rows (gapInserted m) h gaps)
+    insert-done m n u r f few e k =
         let g = gaps-known in
         let fit : length (insert m old) ≤ length gaps = omega (arith, insert-le m old, length-take (h .«gap_count») gaps, g .long) in
         let c : cond (needsRoom m (byGaps h gaps)) (insert m old) old ≡ insert m old = ap (λ (t : Bool). cond t (insert m old) old) f in
-        gaps-done (gapInserted m) (insertWithin (length gaps) m) prefix n u p e d k
+        gaps-done (gapInserted m) (insertWithin (length gaps) m) (rankOf (h .«gap_prefix_end»)) n u r (e ∙ rw prefix-back) refl k
         (ap (λ (t : Bool). cond t (insert m old) old) (le-leb (length (insert m old)) (length gaps) fit) ∙ sym c)
         (omega (arith, ap length c))
 
@@ -135,6 +139,34 @@ module _ (h : ReaderProxy) (gaps : List ℕ) (rows : List Row) (a : Answer) (q :
         go true true e f = e
         go true false e f = sym f
         go false t e f = refl
+
+-- a member, by what the code found of it: whether it takes room
+module _ (n last : SequenceNumber) (h : ReaderProxy) (gaps : List ℕ) (m : ℕ) (needs : Bool) (a : Answer) (em : m ≡ rankOf n) (en : needs ≡ needsRoom m (byGaps h gaps))
+    (q : a ≡ answerOf (rowsOf (row 1 (not (gapsOk h gaps)) ∷ row 2 (not (isSample n) || beyond n last) ∷ row 9 (leb 256 (h .«gap_count») && needs) ∷ []))) where
+  abbrev insert-rows : List Row
+  insert-rows = row 2 (not (isSample n) || beyond n last) ∷ row 9 (leb 256 (h .«gap_count») && needsRoom (rankOf n) (byGaps h gaps)) ∷ []
+
+  needs-is : needs ≡ needsRoom (rankOf n) (byGaps h gaps)
+  needs-is = en ∙ ap (λ (x : ℕ). needsRoom x (byGaps h gaps)) em
+
+  by-rows : a ≡ answerOf (rowsOf (row 1 (not (gapsOk h gaps)) ∷ insert-rows))
+  by-rows = q ∙ ap (λ (t : Bool). answerOf (rowsOf (row 1 (not (gapsOk h gaps)) ∷ row 2 (not (isSample n) || beyond n last) ∷ row 9 (leb 256 (h .«gap_count») && t) ∷ []))) needs-is
+
+  pub not-inserted : (not (eqb (a .number) 0) || not needs) ≡ true → Gives1 (record { answer = a; proxy = h }) gaps (gapInsertedOf n last h gaps)
+  not-inserted e = go (eqb (a .number) 0) refl e
+    where
+      go : (t : Bool) → eqb (a .number) 0 ≡ t → (not t || not needs) ≡ true → Gives1 (record { answer = a; proxy = h }) gaps (gapInsertedOf n last h gaps)
+      go true b e = no-room-done h gaps insert-rows a by-rows (eqb-true (a .number) 0 b) (rankOf n) (sym needs-is ∙ not-true needs e)
+      go false b e = gaps-refused h gaps insert-rows a by-rows (gapInserted (rankOf n)) (eqb-false (a .number) 0 b)
+
+  pub inserted : (not (eqb (a .number) 0) || not needs) ≡ false → (k : ℕ) (u : List ℕ) (r : Changed) → r ≡ changed a (countMembers k h)
+      → Gives1 k u (inRoom (insertWithin (length gaps) m) (h .«gap_count») gaps) → Gives1 r u (gapInsertedOf n last h gaps)
+  inserted e k u r er g =
+      let x = neither (not (eqb (a .number) 0)) (not needs) e in
+      let z : a .number ≡ 0 = eqb-true (a .number) 0 (not-false (eqb (a .number) 0) (x .0)) in
+      let t : needsRoom (rankOf n) (byGaps h gaps) ≡ true = sym needs-is ∙ not-false needs (x .1) in
+      let few = room-left h gaps insert-rows a by-rows z (needsRoom (rankOf n) (byGaps h gaps)) (clear (rowsOf (row 1 (not (gapsOk h gaps)) ∷ insert-rows)) a by-rows z .gaps-full) t in
+      insert-done h gaps insert-rows a by-rows z (rankOf n) k u r t few er (subst (λ (x : ℕ). Gives1 k u (inRoom (insertWithin (length gaps) x) (h .«gap_count») gaps)) em g)
 
 -- the next number of the pending gap
 pub next-gap : (at : Cursor) (h : ReaderProxy) (gaps : List ℕ) (from member n : ℕ) → from ≡ max (at .from) (max 1 (rankOf (h .«all_acked_before»)))

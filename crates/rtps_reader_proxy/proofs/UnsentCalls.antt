@@ -30,8 +30,8 @@ use Rattle.rtps_reader_proxy.specs.declared.proxy.ReaderProxy.{ReaderPro
 use Rattle.rtps_reader_proxy.specs.declared.proxy.Changed.{Changed}
 use Rattle.rtps_reader_proxy.specs.declared.unsent.Taken.{Taken}
 use Rattle.rtps_reader_proxy.specs.Reader.{Reader, fresh, notified, markedSent, removedBefore, taken, untaken, withUnsent}
-use Rattle.rtps_reader_proxy.specs.Record.{headOk, unsentOk, seen, headOf, unsentRoom}
-use Rattle.rtps_reader_proxy.specs.Unsent.{newOf, countUnsent, byUnsent, unsentBy, takenOf, nextUnsentOf}
+use Rattle.rtps_reader_proxy.specs.Record.{headOk, unsentOk, seen, headOf, unsentRoom, changed}
+use Rattle.rtps_reader_proxy.specs.Unsent.{newOf, countUnsent, tookOf, byUnsent, unsentBy, takenOf, nextUnsentOf}
 
 -- a new reader
 module _ (m : ℕ) (a : Answer) (q : a ≡ answerOf (rowsOf (row 13 (not (leb 1 m && leb m 1024)) ∷ []))) where
@@ -97,30 +97,30 @@ module _ (h : ReaderProxy) (unsent : List ℕ) (rows : List Row) (a : Answer) (q
     old-few = omega (arith, length-take (h .«unsent_count») unsent)
 
     -- the code's change g of the run is that of the reader's step f
-    unsent-done : (f : Reader → Reader) (g : List ℕ → List ℕ) (n : ℕ) (u : List ℕ) (p : ReaderProxy) → p ≡ countUnsent n h → Gives1 n u (inRoom g (h .«unsent_count») unsent)
+    unsent-done : (f : Reader → Reader) (g : List ℕ → List ℕ) (n : ℕ) (u : List ℕ) (r : Changed) → r ≡ changed a (countUnsent n h) → Gives1 n u (inRoom g (h .«unsent_count») unsent)
         → g old ≡ f (byUnsent h unsent) .unsent → f (byUnsent h unsent) .cap ≡ h .«unsent_cap» → length (f (byUnsent h unsent) .unsent) ≤ length unsent
-        → Gives1 (record { answer = a; proxy = p }) u (unsentBy rows f h unsent)
-    unsent-done f g n u p e k w c l =
+        → Gives1 r u (unsentBy rows f h unsent)
+    unsent-done f g n u r e k w c l =
         let y = in-room 0 (h .«unsent_count») unsent g (f (byUnsent h unsent) .unsent) (unsent-known .run) w l n u k in
-        gives1 (record { answer = a; proxy = p }) u (is-changed f) (unsentBy rows f h unsent) (is-done unsent-rows a q not-changed (is-changed f) z)
-        (rw (done-is a z, e, y .0)) (y .1 ∙ ap (λ (m : ℕ). roomOf m (f (byUnsent h unsent) .unsent)) (unsent-known .long ∙ sym c))
+        gives1 r u (is-changed f) (unsentBy rows f h unsent) (is-done unsent-rows a q not-changed (is-changed f) z)
+        (e ∙ rw (done-is a z, y .0)) (y .1 ∙ ap (λ (m : ℕ). roomOf m (f (byUnsent h unsent) .unsent)) (unsent-known .long ∙ sym c))
 
-    pub notify-done : (m n : ℕ) (u : List ℕ) (p : ReaderProxy) → p ≡ countUnsent n h → Gives1 n u (inRoom (newest (length unsent) m) (h .«unsent_count») unsent)
-        → Gives1 (record { answer = a; proxy = p }) u (unsentBy rows (notified m) h unsent)
-    notify-done m n u p e k =
-        unsent-done (notified m) (newest (length unsent) m) n u p e k (ap (λ (x : ℕ). largest x (insert m old)) (unsent-known .long)) refl
+    pub notify-done : (m n : ℕ) (u : List ℕ) (r : Changed) → r ≡ changed a (countUnsent n h) → Gives1 n u (inRoom (newest (length unsent) m) (h .«unsent_count») unsent)
+        → Gives1 r u (unsentBy rows (notified m) h unsent)
+    notify-done m n u r e k =
+        unsent-done (notified m) (newest (length unsent) m) n u r e k (ap (λ (x : ℕ). largest x (insert m old)) (unsent-known .long)) refl
         (omega (arith, largest-few (h .«unsent_cap») (insert m old), unsent-known .long))
 
-    pub mark-done : (m n : ℕ) (u : List ℕ) (p : ReaderProxy) → p ≡ countUnsent n h → Gives1 n u (inRoom (removed m) (h .«unsent_count») unsent)
-        → Gives1 (record { answer = a; proxy = p }) u (unsentBy rows (markedSent m) h unsent)
-    mark-done m n u p e k =
-        unsent-done (markedSent m) (removed m) n u p e k (removed-without m 1 old (unsent-known .run .rises .from)) refl
+    pub mark-done : (m n : ℕ) (u : List ℕ) (r : Changed) → r ≡ changed a (countUnsent n h) → Gives1 n u (inRoom (removed m) (h .«unsent_count») unsent)
+        → Gives1 r u (unsentBy rows (markedSent m) h unsent)
+    mark-done m n u r e k =
+        unsent-done (markedSent m) (removed m) n u r e k (removed-without m 1 old (unsent-known .run .rises .from)) refl
         (omega (arith, only-le (λ x. not (eqb m x)) old, old-few))
 
-    pub before-done : (m n : ℕ) (u : List ℕ) (p : ReaderProxy) → p ≡ countUnsent n h → Gives1 n u (inRoom (fromOn m) (h .«unsent_count») unsent)
-        → Gives1 (record { answer = a; proxy = p }) u (unsentBy rows (removedBefore m) h unsent)
-    before-done m n u p e k =
-        unsent-done (removedBefore m) (fromOn m) n u p e k (from-only m 1 old (unsent-known .run .rises .from)) refl
+    pub before-done : (m n : ℕ) (u : List ℕ) (r : Changed) → r ≡ changed a (countUnsent n h) → Gives1 n u (inRoom (fromOn m) (h .«unsent_count») unsent)
+        → Gives1 r u (unsentBy rows (removedBefore m) h unsent)
+    before-done m n u r e k =
+        unsent-done (removedBefore m) (fromOn m) n u r e k (from-only m 1 old (unsent-known .run .rises .from)) refl
         (omega (arith, only-le (leb m) old, old-few))
 
 -- many steps under one check
@@ -152,9 +152,9 @@ module _ (h : ReaderProxy) (unsent out : List ℕ) (a : Answer) (q : a ≡ answe
     pub take-in : (k : ℕ) → k ≡ min (h .«unsent_count») (length out) → k ≤ length unsent
     take-in k e = omega (arith, known .run .fits)
 
-    pub take-done : (k n : ℕ) (u o : List ℕ) (p : ReaderProxy) → k ≡ min (h .«unsent_count») (length out) → o ≡ filled (take k unsent) out → Gives1 n u (inRoom (cutOut 0 k) (h .«unsent_count») unsent) → p ≡ countUnsent n h
-        → Gives2 (record { answer = a; count = k; proxy = p }) u o (takenOf h unsent out)
-    take-done k n u o p e w j f =
+    pub take-done : (k n : ℕ) (u o : List ℕ) (t : Taken) → k ≡ min (h .«unsent_count») (length out) → o ≡ filled (take k unsent) out → Gives1 n u (inRoom (cutOut 0 k) (h .«unsent_count») unsent) → t ≡ tookOf a k n h
+        → Gives2 t u o (takenOf h unsent out)
+    take-done k n u o t e w j f =
         let r = known .run in
         let lh : length held ≡ h .«unsent_count» = length-take-le (h .«unsent_count») unsent (r .fits) in
         let tk : take k unsent ≡ take (length out) held = front k e in
@@ -163,8 +163,8 @@ module _ (h : ReaderProxy) (unsent out : List ℕ) (a : Answer) (q : a ≡ answe
         let lk : length (take k unsent) ≡ k = length-take-le k unsent (take-in k e) in
         let fit : length (untaken (length out) held) ≤ length unsent = omega (arith, ap length (untaken-is (length out) 1 held (r .rises .from)), length-drop (length out) held, length-take (h .«unsent_count») unsent) in
         let y = in-room 0 (h .«unsent_count») unsent (cutOut 0 k) (untaken (length out) held) r ud fit n u j in
-        gives2 (record { answer = a; count = k; proxy = p }) u o is-taken (takenOf h unsent out) (is-done take-rows a q not-taken is-taken z)
-        (rw (done-is a z, f, y .0, td, lk)) (y .1 ∙ ap (λ (m : ℕ). roomOf m (untaken (length out) held)) (known .long)) (w ∙ ap (λ (l : List ℕ). filled l out) (sym td))
+        gives2 t u o is-taken (takenOf h unsent out) (is-done take-rows a q not-taken is-taken z)
+        (f ∙ rw (done-is a z, y .0, td, lk)) (y .1 ∙ ap (λ (m : ℕ). roomOf m (untaken (length out) held)) (known .long)) (w ∙ ap (λ (l : List ℕ). filled l out) (sym td))
       where
         front : (k : ℕ) → k ≡ min (h .«unsent_count») (length out) → take k unsent ≡ take (length out) held
         front k e = go (leb (length out) (h .«unsent_count»)) refl

@@ -104,3 +104,19 @@ pub record Ackable (h : ReaderProxy) (unsent gaps : List ℕ) (set : SequenceNum
   pub base : negative (set .base) ≡ false
   pub top : last ≤ topNumber
   pub behind : isAhead last (rankOf (set .base)) ≡ false
+
+-- the head and the answer, where `total` numbers want to be unsent and so many gap members are kept
+abbrev pub ackedWith : ℕ → ℕ → ℕ → ReaderProxy → AckNacked
+ackedWith low total kept h =
+    record {
+      answer = done;
+      «left_out» = total - h .«unsent_cap»;
+      proxy = record {
+        «all_acked_before» = numberAt low;
+        «unsent_cap» = h .«unsent_cap»;
+        «unsent_count» = total - (total - h .«unsent_cap»);
+        «gap_prefix_end» = h .«gap_prefix_end»;
+        «gap_count» = kept;
+        «frag_count» = h .«frag_count»;
+      };
+    }

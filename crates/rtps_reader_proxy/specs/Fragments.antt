@@ -10,6 +10,7 @@ use Rattle.numbers.specs.Refusals.{Row, row, rowsOf, done, unless}
 use Rattle.numbers.specs.Cursor.{cursorAt, cursorPast}
 use Rattle.numbers.specs.Promise.{Left2}
 use Rattle.numbers.specs.declared.answer.Answer.{Answer}
+use Rattle.numbers.specs.declared.answer.Rows.{Rows}
 use Rattle.numbers.specs.declared.cursor.Cursor.{Cursor}
 use Rattle.numbers.specs.declared.sequence_number.SequenceNumber.{SequenceNumber}
 use Rattle.numbers.specs.declared.fragment_number.FragmentNumber.{FragmentNumber}
@@ -85,17 +86,20 @@ fragsRequestedOf n set h samples words =
 abbrev pub fragSentOf : SequenceNumber → FragmentNumber → ReaderProxy → List ℕ → List ℕ → Left2 Changed (List ℕ) (List ℕ)
 fragSentOf n f = fragsBy [] (fragSent (rankOf n) (f .0))
 
+-- the answer of a question for the next fragment that found f of sample n, unless a row holds
+abbrev pub nextPiece : Rows → ℕ → ℕ → NextFragRequested
+nextPiece rows n f =
+    unless rows
+    (λ a. record { answer = a; sample = numberAt 0; fragment = fragmentAt 0; cursor = cursorAt 0 })
+    (record { answer = done; sample = numberAt n; fragment = fragmentAt f; cursor = cursorPast f })
+
 -- "The next fragment is the smallest requested number, at or after any number given, of the smallest sample held"; 14 where there is none
 abbrev pub nextFragOf : Cursor → ReaderProxy → List ℕ → List ℕ → NextFragRequested
 nextFragOf at h samples words =
-    unless (rowsOf (row 1 (not (fragsOk h samples words)) ∷ row 14 (eqb (nextFragment (at .from) (entriesIn h samples words)) 0) ∷ []))
-    (λ a. record { answer = a; sample = numberAt 0; fragment = fragmentAt 0; cursor = cursorAt 0 })
-    (record {
-      answer = done;
-      sample = numberAt (nextSample (entriesIn h samples words));
-      fragment = fragmentAt (nextFragment (at .from) (entriesIn h samples words));
-      cursor = cursorPast (nextFragment (at .from) (entriesIn h samples words));
-    })
+    nextPiece
+    (rowsOf (row 1 (not (fragsOk h samples words)) ∷ row 14 (eqb (nextFragment (at .from) (entriesIn h samples words)) 0) ∷ []))
+    (nextSample (entriesIn h samples words))
+    (nextFragment (at .from) (entriesIn h samples words))
 
 -- whether any fragment is requested
 abbrev pub repairOf : ReaderProxy → List ℕ → List ℕ → Told

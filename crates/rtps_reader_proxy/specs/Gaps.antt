@@ -18,7 +18,7 @@ use Rattle.rtps_reader_proxy.specs.declared.proxy.Changed.{Changed}
 use Rattle.rtps_reader_proxy.specs.Reader.{Reader, needsRoom, gapInserted, gapUpTo, nextGap}
 use Rattle.rtps_reader_proxy.specs.Record.{gapsOk, seen, gapRoom}
 
--- the head, with another prefix end and the count of other gap members
+-- the head, with another prefix end and the count of other gap members; and with such a count alone
 abbrev pub countGaps : ℕ → ℕ → ReaderProxy → ReaderProxy
 countGaps prefix n h =
     record {
@@ -26,6 +26,17 @@ countGaps prefix n h =
       «unsent_cap» = h .«unsent_cap»;
       «unsent_count» = h .«unsent_count»;
       «gap_prefix_end» = numberAt prefix;
+      «gap_count» = n;
+      «frag_count» = h .«frag_count»;
+    }
+
+abbrev pub countMembers : ℕ → ReaderProxy → ReaderProxy
+countMembers n h =
+    record {
+      «all_acked_before» = h .«all_acked_before»;
+      «unsent_cap» = h .«unsent_cap»;
+      «unsent_count» = h .«unsent_count»;
+      «gap_prefix_end» = h .«gap_prefix_end»;
       «gap_count» = n;
       «frag_count» = h .«frag_count»;
     }

@@ -7,8 +7,10 @@ use lib.Dec.{leb, eqb}
 use lib.ListN.{length, take}
 use Rattle.numbers.specs.Number.{topNumber, rankOf, inRange, numberAt}
 use Rattle.rising.specs.Runs.{runOk, roomOf}
+use Rattle.numbers.specs.declared.answer.Answer.{Answer}
 use Rattle.requested_fragments.specs.Entries.{Entry}
 use Rattle.rtps_reader_proxy.specs.declared.proxy.ReaderProxy.{ReaderProxy}
+use Rattle.rtps_reader_proxy.specs.declared.proxy.Changed.{Changed}
 use Rattle.rtps_reader_proxy.specs.Reader.{Reader}
 
 -- COHERENCE. "A reader record is coherent if acked is 0 to 2^63−1, M and the counts fit the table, the prefix end is 0 to 2^63−2, ..": the head
@@ -62,3 +64,7 @@ unsentRoom r = roomOf (r .cap) (r .unsent)
 
 abbrev pub gapRoom : Reader → List ℕ
 gapRoom r = roomOf 256 (r .gaps)
+
+-- a call's answer, with the head that it leaves
+abbrev pub changed : Answer → ReaderProxy → Changed
+changed a h = record { answer = a; proxy = h }

@@ -36,6 +36,10 @@ countUnsent n h =
       «frag_count» = h .«frag_count»;
     }
 
+-- what a call that took n answers, where so many are left
+abbrev pub tookOf : Answer → ℕ → ℕ → ReaderProxy → Taken
+tookOf a n left h = record { answer = a; count = n; proxy = countUnsent left h }
+
 -- the reader, as far as the head and the unsent room show it
 abbrev pub byUnsent : ReaderProxy → List ℕ → Reader
 byUnsent h unsent = seen h unsent [] []

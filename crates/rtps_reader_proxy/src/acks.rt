@@ -3,8 +3,9 @@ ghost use mathlib.Core.Path.{_≡_};
 ghost use lib.ListN.{length, take};
 ghost use Rattle.sets.specs.Sets.{smallest};
 ghost use Rattle.numbers.specs.Promise.{Gives1, Gives2};
+ghost use Rattle.numbers.specs.Refusals.{answerOf};
 ghost use Rattle.rtps_reader_proxy.specs.Reader.{staying};
-ghost use Rattle.rtps_reader_proxy.specs.Acks.{ackNackedOf, ackLeaves, Ackable, runLeft, Stayable, Joinable, joining};
+ghost use Rattle.rtps_reader_proxy.specs.Acks.{ackNackedOf, ackRows, ackLeaves, ackedWith, Ackable, runLeft, Stayable, Joinable, joining};
 use crate::arith;
 use crate::proxy::ReaderProxy;
 use number_sets::SequenceNumberSet;
@@ -51,6 +52,46 @@ fn join(unsent: &mut [u64], count: usize, set: SequenceNumberSet, lo: u64, hi: u
 }
 
 impl ReaderProxy {
+    // The answer of an acknowledgement: 1, 3, 2, 12 or done.
+    fn check_ack(
+        self,
+        unsent: &[u64],
+        gaps: &[u64],
+        set: SequenceNumberSet,
+        last: SequenceNumber,
+    ) -> Answer
+        ensures { λ r. ⌜ r ≡ answerOf (ackRows self (now (unsent .entry)) (now (gaps .entry)) set last) ⌝ }
+    {
+        let base = set.base;
+        let bits = set.count;
+        let good = self.unsent_ok(unsent) & self.gaps_ok(gaps);
+        let within = last.within(9223372036854775806);
+        let end = last.rank();
+        let mut rows = Rows::none();
+        rows.incoherent = !good;
+        rows.bits = 256 < bits;
+        rows.range = base.is_negative() | !within;
+        rows.ahead = end + 1 < arith::larger(base.rank(), 1);
+        Answer::of(rows)
+    }
+
+    // The head after an acknowledgement, with what is left out of `total` numbers.
+    fn with_acked(mut self, low: u64, total: usize, kept: usize) -> AckNacked
+        ensures { λ r. ⌜ r ≡ ackedWith low total kept self ⌝ }
+    {
+        let left_out = arith::excess(total, self.unsent_cap);
+        self.all_acked_before = SequenceNumber::from_rank(low);
+        self.unsent_count = total - left_out;
+        self.gap_count = kept;
+        AckNacked {
+            answer: Answer {
+                number: Answer::DONE,
+            },
+            left_out,
+            proxy: self,
+        }
+    }
+
     // An acknowledgement that is not refused.
     fn acknowledged(
         self,
@@ -67,19 +108,8 @@ impl ReaderProxy {
         let low = arith::larger(a, arith::larger(base, 1));
         let old = stay(unsent, self.unsent_count, a, base, last);
         let total = join(unsent, old, set, low, last);
-        let left_out = arith::excess(total, self.unsent_cap);
         let kept = room::keep_from(gaps, self.gap_count, low);
-        let mut proxy = self;
-        proxy.all_acked_before = SequenceNumber::from_rank(low);
-        proxy.unsent_count = total - left_out;
-        proxy.gap_count = kept;
-        AckNacked {
-            answer: Answer {
-                number: Answer::DONE,
-            },
-            left_out,
-            proxy,
-        }
+        self.with_acked(low, total, kept)
     }
 
     // An ACKNACK is taken, where `last` is the last number written.
@@ -92,17 +122,7 @@ impl ReaderProxy {
     ) -> AckNacked
         ensures { λ r. ⌜ Gives2 r (now (unsent .exit)) (now (gaps .exit)) (ackNackedOf set last self (now (unsent .entry)) (now (gaps .entry))) ⌝ }
     {
-        let base = set.base;
-        let bits = set.count;
-        let good = self.unsent_ok(unsent) & self.gaps_ok(gaps);
-        let within = last.within(9223372036854775806);
-        let end = last.rank();
-        let mut rows = Rows::none();
-        rows.incoherent = !good;
-        rows.bits = 256 < bits;
-        rows.range = base.is_negative() | !within;
-        rows.ahead = end + 1 < arith::larger(base.rank(), 1);
-        let answer = Answer::of(rows);
+        let answer = self.check_ack(unsent, gaps, set, last);
         if answer.number != 0 {
             return AckNacked {
                 answer,
@@ -110,6 +130,6 @@ impl ReaderProxy {
                 proxy: self,
             };
         }
-        self.acknowledged(unsent, gaps, set, end)
+        self.acknowledged(unsent, gaps, set, last.rank())
     }
 }

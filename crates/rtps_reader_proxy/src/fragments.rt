@@ -2,9 +2,12 @@
 ghost use mathlib.Core.Path.{_≡_};
 ghost use mathlib.Core.List.{[], _∷_};
 ghost use mathlib.Core.Bool.{not};
+ghost use lib.Dec.{ltb};
+ghost use Rattle.numbers.specs.Number.{rankOf};
 ghost use Rattle.numbers.specs.Promise.{Gives2};
 ghost use Rattle.numbers.specs.Refusals.{row, rowsOf, answerOf};
-ghost use Rattle.rtps_reader_proxy.specs.Fragments.{fragsOk, countFrags, cannotAsk, noSlot, fragsRequestedOf, fragSentOf, nextFragOf, repairOf};
+ghost use Rattle.rtps_reader_proxy.specs.Fragments.{fragsOk, countFrags, cannotAsk, noSlot, fragsRequestedOf, fragSentOf, nextFragOf, nextPiece, repairOf};
+ghost use Rattle.rtps_reader_proxy.specs.Record.{changed};
 use crate::proxy::Changed;
 use crate::proxy::ReaderProxy;
 use number_sets::FragmentNumberSet;
@@ -41,6 +44,30 @@ fn cannot_ask(n: SequenceNumber, set: FragmentNumberSet) -> bool
     let good = n.is_sample();
     let above = set.reaches(4097);
     !good | ((base == 0) | above)
+}
+
+// The answer of a question for the next fragment that found one, or met a row.
+fn next_piece(rows: Rows, n: u64, f: u64) -> NextFragRequested
+    ensures { λ r. ⌜ r ≡ nextPiece rows n f ⌝ }
+{
+    let answer = Answer::of(rows);
+    if answer.number != 0 {
+        return NextFragRequested {
+            answer,
+            sample: SequenceNumber(0),
+            fragment: FragmentNumber(0),
+            cursor: Cursor { from: 0 },
+        };
+    }
+    let sample = SequenceNumber::from_rank(n);
+    let fragment = FragmentNumber::from_rank(f);
+    let cursor = Cursor::past(f);
+    NextFragRequested {
+        answer,
+        sample,
+        fragment,
+        cursor,
+    }
 }
 
 impl ReaderProxy {
@@ -81,11 +108,30 @@ impl ReaderProxy {
         (16 <= self.frag_count) & ((size != 0) & !held)
     }
 
-    fn with_frags(mut self, count: usize) -> ReaderProxy
-        ensures { λ r. ⌜ r ≡ countFrags count self ⌝ }
+    // The answer of a request.
+    fn check_request(
+        self,
+        samples: &[u64],
+        words: &[u64],
+        n: SequenceNumber,
+        set: FragmentNumberSet,
+    ) -> Answer
+        ensures { λ r. ⌜ r ≡ answerOf (rowsOf (row 1 (not (fragsOk self (now (samples .entry)) (now (words .entry)))) ∷ row 3 (ltb 256 (set .count)) ∷ row 2 (cannotAsk n set) ∷ row 10 (noSlot (rankOf n) set self (now (samples .entry)) (now (words .entry))) ∷ [])) ⌝ }
+    {
+        let bits = set.count;
+        let range = cannot_ask(n, set);
+        let full = self.no_slot(samples, words, n.rank(), set);
+        self.check_frags(samples, words, 256 < bits, range, full)
+    }
+
+    fn with_frags(mut self, answer: Answer, count: usize) -> Changed
+        ensures { λ r. ⌜ r ≡ changed answer (countFrags count self) ⌝ }
     {
         self.frag_count = count;
-        self
+        Changed {
+            answer,
+            proxy: self,
+        }
     }
 
     // The reader asks for fragments of one sample.
@@ -98,10 +144,7 @@ impl ReaderProxy {
     ) -> Changed
         ensures { λ r. ⌜ Gives2 r (now (samples .exit)) (now (words .exit)) (fragsRequestedOf n set self (now (samples .entry)) (now (words .entry))) ⌝ }
     {
-        let bits = set.count;
-        let range = cannot_ask(n, set);
-        let full = self.no_slot(samples, words, n.rank(), set);
-        let answer = self.check_frags(samples, words, 256 < bits, range, full);
+        let answer = self.check_request(samples, words, n, set);
         if answer.number != 0 {
             return Changed {
                 answer,
@@ -109,8 +152,7 @@ impl ReaderProxy {
             };
         }
         let count = ask::request(samples, words, self.frag_count, n.rank(), set);
-        let proxy = self.with_frags(count);
-        Changed { answer, proxy }
+        self.with_frags(answer, count)
     }
 
     // A fragment was sent.
@@ -131,8 +173,7 @@ impl ReaderProxy {
             };
         }
         let count = table::mark_sent(samples, words, self.frag_count, n.rank(), f.rank());
-        let proxy = self.with_frags(count);
-        Changed { answer, proxy }
+        self.with_frags(answer, count)
     }
 
     // The first requested fragment at or after the cursor, of the smallest sample held, and the cursor past it.
@@ -148,24 +189,7 @@ impl ReaderProxy {
         let mut rows = Rows::none();
         rows.incoherent = !self.frags_ok(samples, words);
         rows.nothing = next.none;
-        let answer = Answer::of(rows);
-        if answer.number != 0 {
-            return NextFragRequested {
-                answer,
-                sample: SequenceNumber(0),
-                fragment: FragmentNumber(0),
-                cursor: Cursor { from: 0 },
-            };
-        }
-        let sample = SequenceNumber::from_rank(next.sample);
-        let fragment = FragmentNumber::from_rank(next.fragment);
-        let cursor = Cursor::past(next.fragment);
-        NextFragRequested {
-            answer,
-            sample,
-            fragment,
-            cursor,
-        }
+        next_piece(rows, next.sample, next.fragment)
     }
 
     // Whether any fragment is requested.

@@ -1,14 +1,15 @@
 // The pending gap: a prefix from 1 on, and single members above it.
 ghost use mathlib.Core.Path.{_≡_};
 ghost use mathlib.Core.List.{[], _∷_};
-ghost use mathlib.Core.Bool.{not, cond, _||_};
+ghost use mathlib.Core.Bool.{not, cond, _&&_, _||_};
+ghost use Prim.Native.Nat.{max};
 ghost use lib.Dec.{leb};
-ghost use Rattle.numbers.specs.Number.{rankOf};
+ghost use Rattle.numbers.specs.Number.{rankOf, isSample};
 ghost use Rattle.numbers.specs.Promise.{Gives1};
 ghost use Rattle.numbers.specs.Refusals.{row, rowsOf, answerOf};
 ghost use Rattle.rtps_reader_proxy.specs.Reader.{needsRoom};
-ghost use Rattle.rtps_reader_proxy.specs.Record.{gapsOk};
-ghost use Rattle.rtps_reader_proxy.specs.Gaps.{byGaps, beyond, gapInsertedOf, gapUpToOf, nextGapOf, countGaps};
+ghost use Rattle.rtps_reader_proxy.specs.Record.{gapsOk, changed};
+ghost use Rattle.rtps_reader_proxy.specs.Gaps.{byGaps, beyond, gapInsertedOf, gapUpToOf, nextGapOf, countGaps, countMembers};
 use crate::arith;
 use crate::proxy::Changed;
 use crate::proxy::ReaderProxy;
@@ -58,12 +59,41 @@ impl ReaderProxy {
         (prefix < n) & ((acked <= n) & !held)
     }
 
-    fn with_gaps(mut self, prefix: u64, count: usize) -> ReaderProxy
-        ensures { λ r. ⌜ r ≡ countGaps prefix count self ⌝ }
+    // The answer of a call with a member n, where `needs` says whether it takes room.
+    fn check_member(
+        self,
+        gaps: &[u64],
+        n: SequenceNumber,
+        last: SequenceNumber,
+        needs: bool,
+    ) -> Answer
+        ensures { λ r. ⌜ r ≡ answerOf (rowsOf (row 1 (not (gapsOk self (now (gaps .entry)))) ∷ row 2 (not (isSample n) || beyond n last) ∷ row 9 (leb 256 (self .«gap_count») && needs) ∷ [])) ⌝ }
     {
+        let range = !n.is_sample() | is_beyond(n, last);
+        self.check_gaps(gaps, range, (256 <= self.gap_count) & needs)
+    }
+
+    fn with_members(mut self, answer: Answer, count: usize) -> Changed
+        ensures { λ r. ⌜ r ≡ changed answer (countMembers count self) ⌝ }
+    {
+        self.gap_count = count;
+        Changed {
+            answer,
+            proxy: self,
+        }
+    }
+
+    // The prefix goes at least to `end`.
+    fn with_prefix(mut self, answer: Answer, end: u64, count: usize) -> Changed
+        ensures { λ r. ⌜ r ≡ changed answer (countGaps (max (rankOf (self .«gap_prefix_end»)) end) count self) ⌝ }
+    {
+        let prefix = arith::larger(self.gap_prefix_end.rank(), end);
         self.gap_prefix_end = SequenceNumber::from_rank(prefix);
         self.gap_count = count;
-        self
+        Changed {
+            answer,
+            proxy: self,
+        }
     }
 
     // The first number of the pending gap at or after the cursor, and the cursor past it.
@@ -89,24 +119,18 @@ impl ReaderProxy {
     ) -> Changed
         ensures { λ r. ⌜ Gives1 r (now (gaps .exit)) (gapInsertedOf n last self (now (gaps .entry))) ⌝ }
     {
-        let needs = self.needs_room(gaps, n.rank());
-        let range = !n.is_sample() | is_beyond(n, last);
-        let answer = self.check_gaps(gaps, range, (256 <= self.gap_count) & needs);
-        if answer.number != 0 {
+        let member = n.rank();
+        let needs = self.needs_room(gaps, member);
+        let answer = self.check_member(gaps, n, last, needs);
+        // A member at or below the prefix end, below acked or held already takes no room: nothing changes.
+        if (answer.number != 0) | !needs {
             return Changed {
                 answer,
                 proxy: self,
             };
         }
-        if !needs {
-            return Changed {
-                answer,
-                proxy: self,
-            };
-        }
-        let count = room::insert(gaps, self.gap_count, n.rank());
-        let proxy = self.with_gaps(self.gap_prefix_end.rank(), count);
-        Changed { answer, proxy }
+        let count = room::insert(gaps, self.gap_count, member);
+        self.with_members(answer, count)
     }
 
     // All samples from 1 through e are not for this reader.
@@ -128,7 +152,6 @@ impl ReaderProxy {
         }
         let end = e.rank();
         let count = room::keep_from(gaps, self.gap_count, end + 1);
-        let proxy = self.with_gaps(arith::larger(self.gap_prefix_end.rank(), end), count);
-        Changed { answer, proxy }
+        self.with_prefix(answer, end, count)
     }
 }

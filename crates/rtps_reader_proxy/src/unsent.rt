@@ -5,8 +5,8 @@ ghost use mathlib.Core.Bool.{not};
 ghost use Rattle.numbers.specs.Cursor.{cursorAt};
 ghost use Rattle.numbers.specs.Promise.{Gives1, Gives2};
 ghost use Rattle.numbers.specs.Refusals.{row, rowsOf, answerOf};
-ghost use Rattle.rtps_reader_proxy.specs.Record.{unsentOk};
-ghost use Rattle.rtps_reader_proxy.specs.Unsent.{notifiedOf, markedSentOf, removedBeforeOf, takenOf, nextUnsentOf, countUnsent};
+ghost use Rattle.rtps_reader_proxy.specs.Record.{unsentOk, changed};
+ghost use Rattle.rtps_reader_proxy.specs.Unsent.{notifiedOf, markedSentOf, removedBeforeOf, takenOf, nextUnsentOf, countUnsent, tookOf};
 use crate::proxy::Changed;
 use crate::proxy::ReaderProxy;
 use numbers::Answer;
@@ -35,11 +35,25 @@ impl ReaderProxy {
         Answer::of(rows)
     }
 
-    fn with_unsent(mut self, count: usize) -> ReaderProxy
-        ensures { λ r. ⌜ r ≡ countUnsent count self ⌝ }
+    fn with_unsent(mut self, answer: Answer, count: usize) -> Changed
+        ensures { λ r. ⌜ r ≡ changed answer (countUnsent count self) ⌝ }
     {
         self.unsent_count = count;
-        self
+        Changed {
+            answer,
+            proxy: self,
+        }
+    }
+
+    fn with_taken(mut self, answer: Answer, count: usize, left: usize) -> Taken
+        ensures { λ r. ⌜ r ≡ tookOf answer count left self ⌝ }
+    {
+        self.unsent_count = left;
+        Taken {
+            answer,
+            count,
+            proxy: self,
+        }
     }
 
     // The first unsent number at or after the cursor, and the cursor past it.
@@ -71,8 +85,7 @@ impl ReaderProxy {
             };
         }
         let count = room::insert_newest(unsent, self.unsent_count, n.rank());
-        let proxy = self.with_unsent(count);
-        Changed { answer, proxy }
+        self.with_unsent(answer, count)
     }
 
     // A number was sent, as data or as a gap.
@@ -87,8 +100,7 @@ impl ReaderProxy {
             };
         }
         let count = room::remove(unsent, self.unsent_count, n.rank());
-        let proxy = self.with_unsent(count);
-        Changed { answer, proxy }
+        self.with_unsent(answer, count)
     }
 
     pub fn remove_from_unsent_set_all_before(self, unsent: &mut [u64], n: SequenceNumber) -> Changed
@@ -102,8 +114,7 @@ impl ReaderProxy {
             };
         }
         let count = room::keep_from(unsent, self.unsent_count, n.rank());
-        let proxy = self.with_unsent(count);
-        Changed { answer, proxy }
+        self.with_unsent(answer, count)
     }
 
     // The first unsent numbers, as many as `out` has room for, are taken and marked sent.
@@ -121,11 +132,6 @@ impl ReaderProxy {
         let count = run::smaller(self.unsent_count, out.len());
         run::copy(&unsent[..count], out);
         let left = room::cut(unsent, self.unsent_count, 0, count);
-        let proxy = self.with_unsent(left);
-        Taken {
-            answer,
-            count,
-            proxy,
-        }
+        self.with_taken(answer, count, left)
     }
 }

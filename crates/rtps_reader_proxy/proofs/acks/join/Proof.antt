@@ -9,23 +9,13 @@ use lib.ListN.{drop}
 use lib.Seq.{length-take-le, take-all}
 use Rattle.numbers.specs.Number.{rankOf}
 use Rattle.number_sets.specs.Bits.{members}
-use Rattle.number_sets.specs.Calls.{sequenceSet, cutSet, joinedSet}
+use Rattle.number_sets.specs.Calls.{sequenceSet, joinedSet}
 use Rattle.number_sets.specs.declared.sequence_number_set.SequenceNumberSet.{SequenceNumberSet}
 use Rattle.rising.proofs.Meaning.{run-is}
 use Rattle.rtps_reader_proxy.proofs.Joins.{join-laid, join-listed, opened-long, size-few, joins-long, p-le-q, q-le, count-fits, joined-members, more-fits, join-total, join-room}
-use Rattle.rtps_reader_proxy.proofs.AckCalls.{stay-late, stay-some, stayable, joinable, left-few, acknowledged-is, ack-refused, ackable, ack-done}
 use borrow.Author.Needs.{needs}
 use Rattle.rtps_reader_proxy.proofs.acks.join.Statement.{statement}
 use Rattle.rtps_reader_proxy.proofs.acks.join.Tie as tie
-use Rattle.rtps_reader_proxy.proofs.acks.join.Reads as reads
-use Rattle.rtps_reader_proxy.proofs.acks.join.Lts as lts
-use Rattle.number_sets.proofs.sequence_number_set.SequenceNumberSet.cut.Reads as cut-reads
-use Rattle.number_sets.proofs.sequence_number_set.SequenceNumberSet.joined.Reads as joined-reads
-use Rattle.number_sets.proofs.sequence_number_set.SequenceNumberSet.list_members.Reads as list-members-reads
-use Rattle.number_sets.proofs.sequence_number_set.SequenceNumberSet.size.Reads as size-reads
-use Rattle.numbers.proofs.sequence_number.SequenceNumber.rank.Reads as rank-reads
-use Rattle.rising.proofs.room.open.Reads as open-reads
-use Rattle.rising.proofs.run.place.Reads as place-reads
 
 rank-requires : tie.Need-rank-requires
 rank-requires c κs = search needs

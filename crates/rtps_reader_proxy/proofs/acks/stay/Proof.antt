@@ -9,17 +9,11 @@ use lib.ListN.{drop}
 use lib.Seq.{length-take-le, take-all}
 use Rattle.numbers.specs.Number.{rankOf}
 use Rattle.number_sets.specs.Bits.{members}
-use Rattle.number_sets.specs.Calls.{sequenceSet, cutSet, joinedSet}
 use Rattle.rtps_reader_proxy.proofs.Joins.{joins-long, p-le-q, q-le, count-fits, joined-members, more-fits, join-total, join-room}
-use Rattle.rtps_reader_proxy.proofs.AckCalls.{stay-late, stay-some, stayable, joinable, left-few, acknowledged-is, ack-refused, ackable, ack-done}
+use Rattle.rtps_reader_proxy.proofs.AckCalls.{stay-late, stay-some}
 use borrow.Author.Needs.{needs}
 use Rattle.rtps_reader_proxy.proofs.acks.stay.Statement.{statement}
 use Rattle.rtps_reader_proxy.proofs.acks.stay.Tie as tie
-use Rattle.rtps_reader_proxy.proofs.acks.stay.Reads as reads
-use Rattle.rtps_reader_proxy.proofs.acks.stay.Lts as lts
-use Rattle.rising.proofs.room.keep_before.Reads as keep-before-reads
-use Rattle.rising.proofs.room.keep_from.Reads as keep-from-reads
-use Rattle.rtps_reader_proxy.proofs.arith.larger.Reads as larger-reads
 
 larger-requires : tie.Need-larger-requires
 larger-requires c κs = search needs

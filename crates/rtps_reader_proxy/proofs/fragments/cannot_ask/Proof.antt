@@ -15,15 +15,10 @@ use Rattle.number_sets.specs.Bits.{members}
 use Rattle.number_sets.specs.Calls.{fragmentSet}
 use Rattle.rtps_reader_proxy.specs.Reader.{fragsRequested, fragSent}
 use Rattle.rtps_reader_proxy.specs.Fragments.{fragsOk, cannotAsk, noSlot}
-use Rattle.rtps_reader_proxy.proofs.FragCalls.{too-high, slot-is, frags-refused, sent-done, requested-done, next-refused, next-done, repair-refused, repair-done}
+use Rattle.rtps_reader_proxy.proofs.FragCalls.{too-high}
 use borrow.Author.Needs.{needs}
 use Rattle.rtps_reader_proxy.proofs.fragments.cannot_ask.Statement.{statement}
 use Rattle.rtps_reader_proxy.proofs.fragments.cannot_ask.Tie as tie
-use Rattle.rtps_reader_proxy.proofs.fragments.cannot_ask.Reads as reads
-use Rattle.rtps_reader_proxy.proofs.fragments.cannot_ask.Lts as lts
-use Rattle.number_sets.proofs.fragment_number_set.FragmentNumberSet.reaches.Reads as reaches-reads
-use Rattle.numbers.proofs.fragment_number.FragmentNumber.rank.Reads as rank-reads
-use Rattle.numbers.proofs.sequence_number.SequenceNumber.is_sample.Reads as is-sample-reads
 
 rank-requires : tie.Need-rank-requires
 rank-requires c κs = search needs

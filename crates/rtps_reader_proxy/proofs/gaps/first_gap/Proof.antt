@@ -3,8 +3,6 @@ use borrow.Author.Tests.{le-leb, lt-leb}
 use borrow.Author.Needs.{needs}
 use Rattle.rtps_reader_proxy.proofs.gaps.first_gap.Statement.{statement}
 use Rattle.rtps_reader_proxy.proofs.gaps.first_gap.Tie as tie
-use Rattle.rtps_reader_proxy.proofs.gaps.first_gap.Reads as reads
-use Rattle.rtps_reader_proxy.proofs.gaps.first_gap.Lts as lts
 
 returns : tie.Need-returns
 returns c = rw (le-leb _ _ (c .if1 .taken))

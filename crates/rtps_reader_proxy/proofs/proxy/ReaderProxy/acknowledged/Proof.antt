@@ -1,25 +1,10 @@
 -- `acknowledged` meets its contract. Assumes nothing.
 use Prim.Native.Nat.{ℕ, _≤_, _<_, _+_, _-_, max}
 use mathlib.Core.Path.{_≡_, refl, sym, ap, _∙_}
-use mathlib.Core.List.{List, [], _∷_}
-use mathlib.Core.Bool.{Bool, not, false}
-use native.Mathlib.Omega.{arith}
-use lib.ListN.{length, take}
-use Rattle.numbers.specs.Number.{rankOf}
-use Rattle.rtps_reader_proxy.specs.Acks.{Ackable}
-use Rattle.rtps_reader_proxy.proofs.AckCalls.{stayable, joinable, left-few, acknowledged-is, ack-refused, ackable, ack-done}
+use Rattle.rtps_reader_proxy.proofs.AckCalls.{stayable, joinable, acknowledged-is}
 use borrow.Author.Needs.{needs}
 use Rattle.rtps_reader_proxy.proofs.proxy.ReaderProxy.acknowledged.Statement.{statement}
 use Rattle.rtps_reader_proxy.proofs.proxy.ReaderProxy.acknowledged.Tie as tie
-use Rattle.rtps_reader_proxy.proofs.proxy.ReaderProxy.acknowledged.Reads as reads
-use Rattle.rtps_reader_proxy.proofs.proxy.ReaderProxy.acknowledged.Lts as lts
-use Rattle.numbers.proofs.sequence_number.SequenceNumber.from_rank.Reads as from-rank-reads
-use Rattle.numbers.proofs.sequence_number.SequenceNumber.rank.Reads as rank-reads
-use Rattle.rising.proofs.room.keep_from.Reads as keep-from-reads
-use Rattle.rtps_reader_proxy.proofs.acks.join.Reads as join-reads
-use Rattle.rtps_reader_proxy.proofs.acks.stay.Reads as stay-reads
-use Rattle.rtps_reader_proxy.proofs.arith.excess.Reads as excess-reads
-use Rattle.rtps_reader_proxy.proofs.arith.larger.Reads as larger-reads
 
 rank-requires : tie.Need-rank-requires
 rank-requires c κs = search needs
@@ -39,17 +24,11 @@ stay-requires c κs = stayable (c .before .before .before .before .before .befor
 join-requires : tie.Need-join-requires
 join-requires c κs = joinable (c .before .before .before .before .before .before .before .before .before .before .before .args .self) (c .before .before .before .before .before .before .before .before .before .before .before .args .unsent .now) (c .before .before .before .before .before .before .before .before .before .before .before .args .gaps .now) (c .before .before .before .before .before .before .before .before .before .before .before .args .set) (c .before .before .before .before .before .before .before .before .before .before .before .args .last) (c .before .before .before .before .before .before .before .before .before .before .before .pre) (c .before .before .before .before .before .before .before .before .rank .result) (c .before .before .before .before .before .before .before .rank2 .result) (c .before .before .before .before .before .larger2 .result) (c .before .before .before .stay .result) (c .before .before .before .stay .last .0) (c .before .before .before .before .before .before .before .before .rank .ensures .is) (c .before .before .before .before .before .before .before .rank2 .ensures .is) (c .before .before .before .before .before .larger2 .ensures ∙ ap (max (c .before .before .before .before .before .before .before .before .rank .result)) (c .before .before .before .before .before .before .larger .ensures)) (c .before .before .before .stay .ensures)
 
-excess-requires : tie.Need-excess-requires
-excess-requires c κs = search needs
-
 keep-from-requires : tie.Need-keep-from-requires
 keep-from-requires c κs = search needs
 
-from-rank-requires : tie.Need-from-rank-requires
-from-rank-requires c κs = search needs
-
-sub-proxy : tie.Need-sub-proxy
-sub-proxy c = search needs
+with-acked-requires : tie.Need-with-acked-requires
+with-acked-requires c κs = search needs
 
 same-length : tie.Need-same-length
 same-length c = search needs
@@ -58,22 +37,7 @@ same-length-2 : tie.Need-same-length-2
 same-length-2 c = search needs
 
 returns : tie.Need-returns
-returns c = acknowledged-is (c .before .before .before .before .before .before .before .before .before .before .before .before .before .before .before .before .before .before .before .before .args .self) (c .before .before .before .before .before .before .before .before .before .before .before .before .before .before .before .before .before .before .before .before .args .unsent .now) (c .before .before .before .before .before .before .before .before .before .before .before .before .before .before .before .before .before .before .before .before .args .gaps .now) (c .before .before .before .before .before .before .before .before .before .before .before .before .before .before .before .before .before .before .before .before .args .set) (c .before .before .before .before .before .before .before .before .before .before .before .before .before .before .before .before .before .before .before .before .args .last) (c .before .before .before .before .before .before .before .before .before .before .before .before .before .before .before .before .before .before .before .before .pre) (c .before .before .before .before .before .before .before .before .before .before .before .before .before .before .before .before .before .rank .result) (c .before .before .before .before .before .before .before .before .before .before .before .before .before .before .before .before .rank2 .result) (c .before .before .before .before .before .before .before .before .before .before .before .before .before .before .larger2 .result) (c .before .before .before .before .before .before .before .before .before .before .before .before .stay .result) (c .before .before .before .before .before .before .before .before .before .before .before .before .stay .last .0) (c .before .before .before .before .before .before .before .before .before .before .before .before .before .before .before .before .before .rank .ensures .is) (c .before .before .before .before .before .before .before .before .before .before .before .before .before .before .before .before .rank2 .ensures .is) (c .before .before .before .before .before .before .before .before .before .before .before .before .before .before .larger2 .ensures ∙ ap (max (c .before .before .before .before .before .before .before .before .before .before .before .before .before .before .before .before .before .rank .result)) (c .before .before .before .before .before .before .before .before .before .before .before .before .before .before .before .larger .ensures)) (c .before .before .before .before .before .before .before .before .before .before .before .before .stay .ensures) (c .before .before .before .before .before .before .before .before .join .result) (c .before .before .before .before .before .excess .result) (c .before .before .before .keep-from .result) (c .before .before .before .before .before .before .before .before .join .last .0) (c .before .before .before .keep-from .last .0) (c .from-rank .result) (c .before .before .before .before .before .before .before .before .join .ensures) (c .before .before .before .before .before .excess .ensures) (c .before .before .before .keep-from .ensures) (c .from-rank .ensures)
+returns c = acknowledged-is (c .before .before .before .before .before .before .before .before .before .before .before .before .before .before .before .before .before .before .before .args .self) (c .before .before .before .before .before .before .before .before .before .before .before .before .before .before .before .before .before .before .before .args .unsent .now) (c .before .before .before .before .before .before .before .before .before .before .before .before .before .before .before .before .before .before .before .args .gaps .now) (c .before .before .before .before .before .before .before .before .before .before .before .before .before .before .before .before .before .before .before .args .set) (c .before .before .before .before .before .before .before .before .before .before .before .before .before .before .before .before .before .before .before .args .last) (c .before .before .before .before .before .before .before .before .before .before .before .before .before .before .before .before .before .before .before .pre) (c .before .before .before .before .before .before .before .before .before .before .before .before .before .before .before .before .rank .result) (c .before .before .before .before .before .before .before .before .before .before .before .before .before .before .before .rank2 .result) (c .before .before .before .before .before .before .before .before .before .before .before .before .before .larger2 .result) (c .before .before .before .before .before .before .before .before .before .before .before .stay .result) (c .before .before .before .before .before .before .before .before .before .before .before .stay .last .0) (c .before .before .before .before .before .before .before .before .before .before .before .before .before .before .before .before .rank .ensures .is) (c .before .before .before .before .before .before .before .before .before .before .before .before .before .before .before .rank2 .ensures .is) (c .before .before .before .before .before .before .before .before .before .before .before .before .before .larger2 .ensures ∙ ap (max (c .before .before .before .before .before .before .before .before .before .before .before .before .before .before .before .before .rank .result)) (c .before .before .before .before .before .before .before .before .before .before .before .before .before .before .larger .ensures)) (c .before .before .before .before .before .before .before .before .before .before .before .stay .ensures) (c .before .before .before .before .before .before .before .join .result) (c .before .before .before .keep-from .result) (c .before .before .before .before .before .before .before .join .last .0) (c .before .before .before .keep-from .last .0) (c .with-acked .result) (c .before .before .before .before .before .before .before .join .ensures) (c .before .before .before .keep-from .ensures) (c .with-acked .ensures)
 
 pub acknowledged-spec : {M : Type 1} → statement M
-acknowledged-spec =
-    tie.close
-    (tie.spec
-    rank-requires
-    rank-requires-2
-    larger-requires
-    larger-requires-2
-    stay-requires
-    join-requires
-    excess-requires
-    keep-from-requires
-    from-rank-requires
-    sub-proxy
-    same-length
-    same-length-2
-    returns)
+acknowledged-spec = tie.close (tie.spec rank-requires rank-requires-2 larger-requires larger-requires-2 stay-requires join-requires keep-from-requires with-acked-requires same-length same-length-2 returns)

@@ -12,18 +12,11 @@ use Rattle.numbers.specs.Number.{rankOf}
 use Rattle.numbers.specs.Refusals.{row, rowsOf, answerOf}
 use Rattle.numbers.proofs.Refused.{clear}
 use Rattle.number_sets.specs.Bits.{members}
-use Rattle.number_sets.specs.Calls.{fragmentSet}
 use Rattle.rtps_reader_proxy.specs.Reader.{fragsRequested, fragSent}
 use Rattle.rtps_reader_proxy.specs.Fragments.{fragsOk, cannotAsk, noSlot}
-use Rattle.rtps_reader_proxy.proofs.FragCalls.{too-high, slot-is, frags-refused, sent-done, requested-done, next-refused, next-done, repair-refused, repair-done}
 use borrow.Author.Needs.{needs}
 use Rattle.rtps_reader_proxy.proofs.proxy.ReaderProxy.check_frags.Statement.{statement}
 use Rattle.rtps_reader_proxy.proofs.proxy.ReaderProxy.check_frags.Tie as tie
-use Rattle.rtps_reader_proxy.proofs.proxy.ReaderProxy.check_frags.Reads as reads
-use Rattle.rtps_reader_proxy.proofs.proxy.ReaderProxy.check_frags.Lts as lts
-use Rattle.numbers.proofs.answer.Answer.of.Reads as of-reads
-use Rattle.numbers.proofs.answer.Rows.none.Reads as none-reads
-use Rattle.rtps_reader_proxy.proofs.proxy.ReaderProxy.frags_ok.Reads as frags-ok-reads
 
 none-requires : tie.Need-none-requires
 none-requires c κs = search needs

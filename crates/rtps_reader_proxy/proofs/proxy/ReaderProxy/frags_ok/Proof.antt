@@ -12,17 +12,11 @@ use Rattle.numbers.specs.Number.{rankOf}
 use Rattle.numbers.specs.Refusals.{row, rowsOf, answerOf}
 use Rattle.numbers.proofs.Refused.{clear}
 use Rattle.number_sets.specs.Bits.{members}
-use Rattle.number_sets.specs.Calls.{fragmentSet}
 use Rattle.rtps_reader_proxy.specs.Reader.{fragsRequested, fragSent}
 use Rattle.rtps_reader_proxy.specs.Fragments.{fragsOk, cannotAsk, noSlot}
-use Rattle.rtps_reader_proxy.proofs.FragCalls.{too-high, slot-is, frags-refused, sent-done, requested-done, next-refused, next-done, repair-refused, repair-done}
 use borrow.Author.Needs.{needs}
 use Rattle.rtps_reader_proxy.proofs.proxy.ReaderProxy.frags_ok.Statement.{statement}
 use Rattle.rtps_reader_proxy.proofs.proxy.ReaderProxy.frags_ok.Tie as tie
-use Rattle.rtps_reader_proxy.proofs.proxy.ReaderProxy.frags_ok.Reads as reads
-use Rattle.rtps_reader_proxy.proofs.proxy.ReaderProxy.frags_ok.Lts as lts
-use Rattle.requested_fragments.proofs.table.coherent.Reads as coherent-reads
-use Rattle.rtps_reader_proxy.proofs.proxy.ReaderProxy.head_ok.Reads as head-ok-reads
 
 head-ok-requires : tie.Need-head-ok-requires
 head-ok-requires c κs = search needs

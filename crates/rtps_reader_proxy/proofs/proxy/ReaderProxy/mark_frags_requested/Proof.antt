@@ -1,46 +1,13 @@
 -- `mark_frags_requested` meets its contract. Assumes nothing.
 use Prim.Native.Nat.{ℕ, _≤_, _<_, _+_, _-_, max}
-use mathlib.Core.Path.{_≡_, refl, sym, ap, _∙_}
-use mathlib.Core.List.{List, [], _∷_}
-use mathlib.Core.Bool.{Bool, not, false}
 use native.Mathlib.Omega.{arith}
-use lib.ListN.{length, take}
-use mathlib.Core.Bool.{_||_, _&&_}
-use lib.Dec.{leb, ltb, eqb}
-use Rattle.sets.specs.Sets.{empty}
-use Rattle.numbers.specs.Number.{rankOf}
-use Rattle.numbers.specs.Refusals.{row, rowsOf, answerOf}
-use Rattle.numbers.proofs.Refused.{clear}
-use Rattle.number_sets.specs.Bits.{members}
-use Rattle.number_sets.specs.Calls.{fragmentSet}
-use Rattle.rtps_reader_proxy.specs.Reader.{fragsRequested, fragSent}
-use Rattle.rtps_reader_proxy.specs.Fragments.{fragsOk, cannotAsk, noSlot}
-use Rattle.rtps_reader_proxy.proofs.FragCalls.{too-high, slot-is, frags-refused, sent-done, requested-done, next-refused, next-done, repair-refused, repair-done}
+use Rattle.rtps_reader_proxy.proofs.FragCalls.{request-refused, request-done}
 use borrow.Author.Needs.{needs}
-use Rattle.rtps_reader_proxy.proofs.proxy.ReaderProxy.mark_frags_requested.Statement.{
-  statement,
-}
+use Rattle.rtps_reader_proxy.proofs.proxy.ReaderProxy.mark_frags_requested.Statement.{statement}
 use Rattle.rtps_reader_proxy.proofs.proxy.ReaderProxy.mark_frags_requested.Tie as tie
-use Rattle.rtps_reader_proxy.proofs.proxy.ReaderProxy.mark_frags_requested.Reads as reads
-use Rattle.rtps_reader_proxy.proofs.proxy.ReaderProxy.mark_frags_requested.Lts as lts
-use Rattle.numbers.proofs.sequence_number.SequenceNumber.rank.Reads as rank-reads
-use Rattle.requested_fragments.proofs.ask.request.Reads as request-reads
-use Rattle.rtps_reader_proxy.proofs.fragments.cannot_ask.Reads as cannot-ask-reads
-use Rattle.rtps_reader_proxy.proofs.proxy.ReaderProxy.check_frags.Reads as check-frags-reads
-use Rattle.rtps_reader_proxy.proofs.proxy.ReaderProxy.no_slot.Reads as no-slot-reads
-use Rattle.rtps_reader_proxy.proofs.proxy.ReaderProxy.with_frags.Reads as with-frags-reads
 
-cannot-ask-requires : tie.Need-cannot-ask-requires
-cannot-ask-requires c κs = search needs
-
-rank-requires : tie.Need-rank-requires
-rank-requires c κs = search needs
-
-no-slot-requires : tie.Need-no-slot-requires
-no-slot-requires c κs = search needs
-
-check-frags-requires : tie.Need-check-frags-requires
-check-frags-requires c κs = search needs
+check-request-requires : tie.Need-check-request-requires
+check-request-requires c κs = search needs
 
 same-length : tie.Need-same-length
 same-length c = search needs
@@ -49,10 +16,10 @@ same-length-2 : tie.Need-same-length-2
 same-length-2 c = search needs
 
 returns : tie.Need-returns
-returns c = frags-refused (c .before .before .before .before .before .before .before .before .before .before .before .before .args .self) (c .before .before .before .before .before .before .before .before .before .before .before .before .args .samples .now) (c .before .before .before .before .before .before .before .before .before .before .before .before .args .words .now) (row 3 (ltb 256 (c .before .before .before .before .before .before .before .before .before .before .before .before .args .set .count)) ∷ row 2 (cannotAsk (c .before .before .before .before .before .before .before .before .before .before .before .before .args .n) (c .before .before .before .before .before .before .before .before .before .before .before .before .args .set)) ∷ row 10 (noSlot (rankOf (c .before .before .before .before .before .before .before .before .before .before .before .before .args .n)) (c .before .before .before .before .before .before .before .before .before .before .before .before .args .set) (c .before .before .before .before .before .before .before .before .before .before .before .before .args .self) (c .before .before .before .before .before .before .before .before .before .before .before .before .args .samples .now) (c .before .before .before .before .before .before .before .before .before .before .before .before .args .words .now)) ∷ []) (c .before .before .check-frags .result) (c .before .before .check-frags .ensures ∙ rw (c .before .before .before .before .before .before .before .before .before .cannot-ask .ensures, c .before .before .before .before .before .no-slot .ensures, c .before .before .before .before .before .before .rank .ensures .is)) (fragsRequested (rankOf (c .before .before .before .before .before .before .before .before .before .before .before .before .args .n)) (members (fragmentSet (c .before .before .before .before .before .before .before .before .before .before .before .before .args .set)))) (c .if1 .taken)
+returns c = request-refused (c .before .before .before .before .before .before .before .args .n) (c .before .before .before .before .before .before .before .args .set) (c .before .before .before .before .before .before .before .args .self) (c .before .before .before .before .before .before .before .args .samples .now) (c .before .before .before .before .before .before .before .args .words .now) (c .before .before .check-request .result) (c .before .before .check-request .ensures) (c .if1 .taken)
 
-rank-requires-2 : tie.Need-rank-requires-2
-rank-requires-2 c κs = search needs
+rank-requires : tie.Need-rank-requires
+rank-requires c κs = search needs
 
 request-requires : tie.Need-request-requires
 request-requires c κs = search needs
@@ -67,22 +34,7 @@ same-length-4 : tie.Need-same-length-4
 same-length-4 c = search needs
 
 returns-2 : tie.Need-returns-2
-returns-2 c = requested-done (c .before .before .before .before .before .before .before .before .before .before .before .before .before .before .before .before .before .before .before .before .before .args .self) (c .before .before .before .before .before .before .before .before .before .before .before .before .before .before .before .before .before .before .before .before .before .args .samples .now) (c .before .before .before .before .before .before .before .before .before .before .before .before .before .before .before .before .before .before .before .before .before .args .words .now) (row 3 (ltb 256 (c .before .before .before .before .before .before .before .before .before .before .before .before .before .before .before .before .before .before .before .before .before .args .set .count)) ∷ row 2 (cannotAsk (c .before .before .before .before .before .before .before .before .before .before .before .before .before .before .before .before .before .before .before .before .before .args .n) (c .before .before .before .before .before .before .before .before .before .before .before .before .before .before .before .before .before .before .before .before .before .args .set)) ∷ row 10 (noSlot (rankOf (c .before .before .before .before .before .before .before .before .before .before .before .before .before .before .before .before .before .before .before .before .before .args .n)) (c .before .before .before .before .before .before .before .before .before .before .before .before .before .before .before .before .before .before .before .before .before .args .set) (c .before .before .before .before .before .before .before .before .before .before .before .before .before .before .before .before .before .before .before .before .before .args .self) (c .before .before .before .before .before .before .before .before .before .before .before .before .before .before .before .before .before .before .before .before .before .args .samples .now) (c .before .before .before .before .before .before .before .before .before .before .before .before .before .before .before .before .before .before .before .before .before .args .words .now)) ∷ []) (c .before .before .before .before .before .before .before .before .before .before .before .check-frags .result) (c .before .before .before .before .before .before .before .before .before .before .before .check-frags .ensures ∙ rw (c .before .before .before .before .before .before .before .before .before .before .before .before .before .before .before .before .before .before .cannot-ask .ensures, c .before .before .before .before .before .before .before .before .before .before .before .before .before .before .no-slot .ensures, c .before .before .before .before .before .before .before .before .before .before .before .before .before .before .before .rank .ensures .is)) (c .before .before .before .before .before .before .before .before .before .if1 .left) (c .before .before .before .before .before .before .before .before .before .before .before .before .before .before .before .before .before .before .before .before .before .args .n) (c .before .before .before .before .before .before .before .before .before .before .before .before .before .before .before .before .before .before .before .before .before .args .set) (c .before .before .before .before .before .request .result) (c .before .before .before .before .before .request .last .0) (c .before .before .before .before .before .request .last .1 .0) (c .with-frags .result) (clear (rowsOf (row 1 (not (fragsOk (c .before .before .before .before .before .before .before .before .before .before .before .before .before .before .before .before .before .before .before .before .before .args .self) (c .before .before .before .before .before .before .before .before .before .before .before .before .before .before .before .before .before .before .before .before .before .args .samples .now) (c .before .before .before .before .before .before .before .before .before .before .before .before .before .before .before .before .before .before .before .before .before .args .words .now))) ∷ (row 3 (ltb 256 (c .before .before .before .before .before .before .before .before .before .before .before .before .before .before .before .before .before .before .before .before .before .args .set .count)) ∷ row 2 (cannotAsk (c .before .before .before .before .before .before .before .before .before .before .before .before .before .before .before .before .before .before .before .before .before .args .n) (c .before .before .before .before .before .before .before .before .before .before .before .before .before .before .before .before .before .before .before .before .before .args .set)) ∷ row 10 (noSlot (rankOf (c .before .before .before .before .before .before .before .before .before .before .before .before .before .before .before .before .before .before .before .before .before .args .n)) (c .before .before .before .before .before .before .before .before .before .before .before .before .before .before .before .before .before .before .before .before .before .args .set) (c .before .before .before .before .before .before .before .before .before .before .before .before .before .before .before .before .before .before .before .before .before .args .self) (c .before .before .before .before .before .before .before .before .before .before .before .before .before .before .before .before .before .before .before .before .before .args .samples .now) (c .before .before .before .before .before .before .before .before .before .before .before .before .before .before .before .before .before .before .before .before .before .args .words .now)) ∷ []))) (c .before .before .before .before .before .before .before .before .before .before .before .check-frags .result) (c .before .before .before .before .before .before .before .before .before .before .before .check-frags .ensures ∙ rw (c .before .before .before .before .before .before .before .before .before .before .before .before .before .before .before .before .before .before .cannot-ask .ensures, c .before .before .before .before .before .before .before .before .before .before .before .before .before .before .no-slot .ensures, c .before .before .before .before .before .before .before .before .before .before .before .before .before .before .before .rank .ensures .is)) (c .before .before .before .before .before .before .before .before .before .if1 .left) .range) (clear (rowsOf (row 1 (not (fragsOk (c .before .before .before .before .before .before .before .before .before .before .before .before .before .before .before .before .before .before .before .before .before .args .self) (c .before .before .before .before .before .before .before .before .before .before .before .before .before .before .before .before .before .before .before .before .before .args .samples .now) (c .before .before .before .before .before .before .before .before .before .before .before .before .before .before .before .before .before .before .before .before .before .args .words .now))) ∷ (row 3 (ltb 256 (c .before .before .before .before .before .before .before .before .before .before .before .before .before .before .before .before .before .before .before .before .before .args .set .count)) ∷ row 2 (cannotAsk (c .before .before .before .before .before .before .before .before .before .before .before .before .before .before .before .before .before .before .before .before .before .args .n) (c .before .before .before .before .before .before .before .before .before .before .before .before .before .before .before .before .before .before .before .before .before .args .set)) ∷ row 10 (noSlot (rankOf (c .before .before .before .before .before .before .before .before .before .before .before .before .before .before .before .before .before .before .before .before .before .args .n)) (c .before .before .before .before .before .before .before .before .before .before .before .before .before .before .before .before .before .before .before .before .before .args .set) (c .before .before .before .before .before .before .before .before .before .before .before .before .before .before .before .before .before .before .before .before .before .args .self) (c .before .before .before .before .before .before .before .before .before .before .before .before .before .before .before .before .before .before .before .before .before .args .samples .now) (c .before .before .before .before .before .before .before .before .before .before .before .before .before .before .before .before .before .before .before .before .before .args .words .now)) ∷ []))) (c .before .before .before .before .before .before .before .before .before .before .before .check-frags .result) (c .before .before .before .before .before .before .before .before .before .before .before .check-frags .ensures ∙ rw (c .before .before .before .before .before .before .before .before .before .before .before .before .before .before .before .before .before .before .cannot-ask .ensures, c .before .before .before .before .before .before .before .before .before .before .before .before .before .before .no-slot .ensures, c .before .before .before .before .before .before .before .before .before .before .before .before .before .before .before .rank .ensures .is)) (c .before .before .before .before .before .before .before .before .before .if1 .left) .frags-full) (c .with-frags .ensures) (λ (i : ℕ). omega (arith, c .before .slice-known4 .given i)) (rw (← c .before .before .before .before .before .before .rank2 .ensures .is) (c .before .before .before .before .before .request .ensures))
+returns-2 c = request-done (c .before .before .before .before .before .before .before .before .before .before .before .before .before .before .before .before .args .n) (c .before .before .before .before .before .before .before .before .before .before .before .before .before .before .before .before .args .set) (c .before .before .before .before .before .before .before .before .before .before .before .before .before .before .before .before .args .self) (c .before .before .before .before .before .before .before .before .before .before .before .before .before .before .before .before .args .samples .now) (c .before .before .before .before .before .before .before .before .before .before .before .before .before .before .before .before .args .words .now) (c .before .before .before .before .before .before .before .before .before .before .before .check-request .result) (c .before .before .before .before .before .before .before .before .before .before .before .check-request .ensures) (c .before .before .before .before .before .before .before .before .before .if1 .left) (c .before .before .before .before .before .before .rank .result) (c .before .before .before .before .before .request .result) (c .before .before .before .before .before .request .last .0) (c .before .before .before .before .before .request .last .1 .0) (c .with-frags .result) (c .before .before .before .before .before .before .rank .ensures .is) (c .with-frags .ensures) (λ (i : ℕ). omega (arith, c .before .slice-known4 .given i)) (c .before .before .before .before .before .request .ensures)
 
 pub mark-frags-requested-spec : {M : Type 1} → statement M
-mark-frags-requested-spec =
-    tie.close
-    (tie.spec
-    cannot-ask-requires
-    rank-requires
-    no-slot-requires
-    check-frags-requires
-    same-length
-    same-length-2
-    returns
-    rank-requires-2
-    request-requires
-    with-frags-requires
-    same-length-3
-    same-length-4
-    returns-2)
+mark-frags-requested-spec = tie.close (tie.spec check-request-requires same-length same-length-2 returns rank-requires request-requires with-frags-requires same-length-3 same-length-4 returns-2)

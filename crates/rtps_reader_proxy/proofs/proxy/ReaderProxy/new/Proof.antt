@@ -9,7 +9,7 @@ use Rattle.numbers.specs.Number.{rankOf, isSample}
 use Rattle.numbers.specs.Refusals.{row, rowsOf, answerOf}
 use lib.Seq.{length-take-le}
 use Rattle.rtps_reader_proxy.specs.Reader.{notified, markedSent, removedBefore}
-use Rattle.rtps_reader_proxy.proofs.UnsentCalls.{new-refused, new-done, unsent-refused, notify-done, mark-done, before-done, take-refused, take-in, take-done}
+use Rattle.rtps_reader_proxy.proofs.UnsentCalls.{new-refused, new-done}
 use borrow.Author.Needs.{needs}
 use Rattle.rtps_reader_proxy.proofs.proxy.ReaderProxy.new.Statement.{statement}
 use Rattle.rtps_reader_proxy.proofs.proxy.ReaderProxy.new.Tie as tie

@@ -7,19 +7,8 @@ use native.Mathlib.Omega.{arith}
 use lib.ListN.{length, take}
 use Rattle.rtps_reader_proxy.proofs.GapCalls.{next-gap}
 use borrow.Author.Needs.{needs}
-use Rattle.rtps_reader_proxy.proofs.proxy.ReaderProxy.next_pending_gap.Statement.{
-  statement,
-}
+use Rattle.rtps_reader_proxy.proofs.proxy.ReaderProxy.next_pending_gap.Statement.{statement}
 use Rattle.rtps_reader_proxy.proofs.proxy.ReaderProxy.next_pending_gap.Tie as tie
-use Rattle.rtps_reader_proxy.proofs.proxy.ReaderProxy.next_pending_gap.Reads as reads
-use Rattle.rtps_reader_proxy.proofs.proxy.ReaderProxy.next_pending_gap.Lts as lts
-use Rattle.numbers.proofs.answer.Rows.none.Reads as none-reads
-use Rattle.numbers.proofs.cursor.NextNumber.of.Reads as of-reads
-use Rattle.numbers.proofs.sequence_number.SequenceNumber.rank.Reads as rank-reads
-use Rattle.rising.proofs.room.first_from.Reads as first-from-reads
-use Rattle.rtps_reader_proxy.proofs.arith.larger.Reads as larger-reads
-use Rattle.rtps_reader_proxy.proofs.gaps.first_gap.Reads as first-gap-reads
-use Rattle.rtps_reader_proxy.proofs.proxy.ReaderProxy.gaps_ok.Reads as gaps-ok-reads
 
 rank-requires : tie.Need-rank-requires
 rank-requires c κs = search needs

@@ -7,16 +7,8 @@ use native.Mathlib.Omega.{arith}
 use lib.ListN.{length, take}
 use Rattle.rtps_reader_proxy.proofs.UnsentCalls.{next-unsent}
 use borrow.Author.Needs.{needs}
-use Rattle.rtps_reader_proxy.proofs.proxy.ReaderProxy.next_unsent_change.Statement.{
-  statement,
-}
+use Rattle.rtps_reader_proxy.proofs.proxy.ReaderProxy.next_unsent_change.Statement.{statement}
 use Rattle.rtps_reader_proxy.proofs.proxy.ReaderProxy.next_unsent_change.Tie as tie
-use Rattle.rtps_reader_proxy.proofs.proxy.ReaderProxy.next_unsent_change.Reads as reads
-use Rattle.rtps_reader_proxy.proofs.proxy.ReaderProxy.next_unsent_change.Lts as lts
-use Rattle.numbers.proofs.answer.Rows.none.Reads as none-reads
-use Rattle.numbers.proofs.cursor.NextNumber.of.Reads as of-reads
-use Rattle.rising.proofs.room.first_from.Reads as first-from-reads
-use Rattle.rtps_reader_proxy.proofs.proxy.ReaderProxy.unsent_ok.Reads as unsent-ok-reads
 
 first-from-requires : tie.Need-first-from-requires
 first-from-requires c κs = search needs

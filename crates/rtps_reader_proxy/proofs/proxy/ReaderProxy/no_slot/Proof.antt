@@ -12,17 +12,12 @@ use Rattle.numbers.specs.Number.{rankOf}
 use Rattle.numbers.specs.Refusals.{row, rowsOf, answerOf}
 use Rattle.numbers.proofs.Refused.{clear}
 use Rattle.number_sets.specs.Bits.{members}
-use Rattle.number_sets.specs.Calls.{fragmentSet}
 use Rattle.rtps_reader_proxy.specs.Reader.{fragsRequested, fragSent}
 use Rattle.rtps_reader_proxy.specs.Fragments.{fragsOk, cannotAsk, noSlot}
-use Rattle.rtps_reader_proxy.proofs.FragCalls.{too-high, slot-is, frags-refused, sent-done, requested-done, next-refused, next-done, repair-refused, repair-done}
+use Rattle.rtps_reader_proxy.proofs.FragCalls.{slot-is}
 use borrow.Author.Needs.{needs}
 use Rattle.rtps_reader_proxy.proofs.proxy.ReaderProxy.no_slot.Statement.{statement}
 use Rattle.rtps_reader_proxy.proofs.proxy.ReaderProxy.no_slot.Tie as tie
-use Rattle.rtps_reader_proxy.proofs.proxy.ReaderProxy.no_slot.Reads as reads
-use Rattle.rtps_reader_proxy.proofs.proxy.ReaderProxy.no_slot.Lts as lts
-use Rattle.number_sets.proofs.fragment_number_set.FragmentNumberSet.size.Reads as size-reads
-use Rattle.rising.proofs.room.holds.Reads as holds-reads
 
 size-requires : tie.Need-size-requires
 size-requires c κs = search needs

@@ -2,18 +2,13 @@
 use Prim.Native.Nat.{ℕ, _≤_, _<_, _+_, _-_, max}
 use mathlib.Core.Path.{_≡_, refl, sym, ap, _∙_}
 use mathlib.Core.List.{List, [], _∷_}
-use mathlib.Core.Bool.{Bool, not, false}
-use native.Mathlib.Omega.{arith}
-use lib.ListN.{length, take}
+use mathlib.Core.Bool.{Bool, true, false, not, _&&_, _||_}
 use Rattle.numbers.specs.Number.{rankOf, isSample}
 use Rattle.numbers.specs.Refusals.{row, rowsOf, answerOf}
-use lib.Seq.{length-take-le}
-use Rattle.rtps_reader_proxy.specs.Reader.{notified, markedSent, removedBefore}
-use Rattle.rtps_reader_proxy.proofs.UnsentCalls.{new-refused, new-done, unsent-refused, notify-done, mark-done, before-done, take-refused, take-in, take-done}
+use Rattle.rtps_reader_proxy.specs.Reader.{notified}
+use Rattle.rtps_reader_proxy.proofs.UnsentCalls.{unsent-refused, notify-done}
 use borrow.Author.Needs.{needs}
-use Rattle.rtps_reader_proxy.proofs.proxy.ReaderProxy.notify_new_cache_change.Statement.{
-  statement,
-}
+use Rattle.rtps_reader_proxy.proofs.proxy.ReaderProxy.notify_new_cache_change.Statement.{statement}
 use Rattle.rtps_reader_proxy.proofs.proxy.ReaderProxy.notify_new_cache_change.Tie as tie
 
 is-sample-requires : tie.Need-is-sample-requires
@@ -44,15 +39,4 @@ returns-2 : tie.Need-returns-2
 returns-2 c = notify-done (c .before .before .before .before .before .before .before .before .before .before .before .before .args .self) (c .before .before .before .before .before .before .before .before .before .before .before .before .args .unsent .now) (row 2 (not (isSample (c .before .before .before .before .before .before .before .before .before .before .before .before .args .n))) ∷ []) (c .before .before .before .before .before .before .before .before .check-unsent .result) (c .before .before .before .before .before .before .before .before .check-unsent .ensures ∙ rw (c .before .before .before .before .before .before .before .before .before .is-sample .ensures)) (c .before .before .before .before .before .before .if1 .left) (rankOf (c .before .before .before .before .before .before .before .before .before .before .before .before .args .n)) (c .before .before .before .insert-newest .result) (c .before .before .before .insert-newest .last .0) (c .with-unsent .result) (c .with-unsent .ensures) (rw (← c .before .before .before .before .rank .ensures .is) (c .before .before .before .insert-newest .ensures))
 
 pub notify-new-cache-change-spec : {M : Type 1} → statement M
-notify-new-cache-change-spec =
-    tie.close
-    (tie.spec
-    is-sample-requires
-    check-unsent-requires
-    same-length
-    returns
-    rank-requires
-    insert-newest-requires
-    with-unsent-requires
-    same-length-2
-    returns-2)
+notify-new-cache-change-spec = tie.close (tie.spec is-sample-requires check-unsent-requires same-length returns rank-requires insert-newest-requires with-unsent-requires same-length-2 returns-2)

@@ -1,19 +1,13 @@
 -- `remove_from_unsent_set_all_before` meets its contract. Assumes nothing.
 use Prim.Native.Nat.{ℕ, _≤_, _<_, _+_, _-_, max}
-use mathlib.Core.Path.{_≡_, refl, sym, ap, _∙_}
 use mathlib.Core.List.{List, [], _∷_}
-use mathlib.Core.Bool.{Bool, not, false}
-use native.Mathlib.Omega.{arith}
-use lib.ListN.{length, take}
-use Rattle.numbers.specs.Number.{rankOf, isSample}
+use mathlib.Core.Bool.{Bool, true, false, not, _&&_, _||_}
+use Rattle.numbers.specs.Number.{rankOf}
 use Rattle.numbers.specs.Refusals.{row, rowsOf, answerOf}
-use lib.Seq.{length-take-le}
-use Rattle.rtps_reader_proxy.specs.Reader.{notified, markedSent, removedBefore}
-use Rattle.rtps_reader_proxy.proofs.UnsentCalls.{new-refused, new-done, unsent-refused, notify-done, mark-done, before-done, take-refused, take-in, take-done}
+use Rattle.rtps_reader_proxy.specs.Reader.{removedBefore}
+use Rattle.rtps_reader_proxy.proofs.UnsentCalls.{unsent-refused, before-done}
 use borrow.Author.Needs.{needs}
-use Rattle.rtps_reader_proxy.proofs.proxy.ReaderProxy.remove_from_unsent_set_all_before.Statement.{
-  statement,
-}
+use Rattle.rtps_reader_proxy.proofs.proxy.ReaderProxy.remove_from_unsent_set_all_before.Statement.{statement}
 use Rattle.rtps_reader_proxy.proofs.proxy.ReaderProxy.remove_from_unsent_set_all_before.Tie as tie
 
 check-unsent-requires : tie.Need-check-unsent-requires
@@ -41,14 +35,4 @@ returns-2 : tie.Need-returns-2
 returns-2 c = before-done (c .before .before .before .before .before .before .before .before .before .before .before .args .self) (c .before .before .before .before .before .before .before .before .before .before .before .args .unsent .now) (row 2 false ∷ []) (c .before .before .before .before .before .before .before .before .check-unsent .result) (c .before .before .before .before .before .before .before .before .check-unsent .ensures) (c .before .before .before .before .before .before .if1 .left) (rankOf (c .before .before .before .before .before .before .before .before .before .before .before .args .n)) (c .before .before .before .keep-from .result) (c .before .before .before .keep-from .last .0) (c .with-unsent .result) (c .with-unsent .ensures) (rw (← c .before .before .before .before .rank .ensures .is) (c .before .before .before .keep-from .ensures))
 
 pub remove-from-unsent-set-all-before-spec : {M : Type 1} → statement M
-remove-from-unsent-set-all-before-spec =
-    tie.close
-    (tie.spec
-    check-unsent-requires
-    same-length
-    returns
-    rank-requires
-    keep-from-requires
-    with-unsent-requires
-    same-length-2
-    returns-2)
+remove-from-unsent-set-all-before-spec = tie.close (tie.spec check-unsent-requires same-length returns rank-requires keep-from-requires with-unsent-requires same-length-2 returns-2)

@@ -12,18 +12,12 @@ use Rattle.numbers.specs.Number.{rankOf}
 use Rattle.numbers.specs.Refusals.{row, rowsOf, answerOf}
 use Rattle.numbers.proofs.Refused.{clear}
 use Rattle.number_sets.specs.Bits.{members}
-use Rattle.number_sets.specs.Calls.{fragmentSet}
 use Rattle.rtps_reader_proxy.specs.Reader.{fragsRequested, fragSent}
 use Rattle.rtps_reader_proxy.specs.Fragments.{fragsOk, cannotAsk, noSlot}
-use Rattle.rtps_reader_proxy.proofs.FragCalls.{too-high, slot-is, frags-refused, sent-done, requested-done, next-refused, next-done, repair-refused, repair-done}
+use Rattle.rtps_reader_proxy.proofs.FragCalls.{repair-refused, repair-done}
 use borrow.Author.Needs.{needs}
-use Rattle.rtps_reader_proxy.proofs.proxy.ReaderProxy.repair_frags_requested.Statement.{
-  statement,
-}
+use Rattle.rtps_reader_proxy.proofs.proxy.ReaderProxy.repair_frags_requested.Statement.{statement}
 use Rattle.rtps_reader_proxy.proofs.proxy.ReaderProxy.repair_frags_requested.Tie as tie
-use Rattle.rtps_reader_proxy.proofs.proxy.ReaderProxy.repair_frags_requested.Reads as reads
-use Rattle.rtps_reader_proxy.proofs.proxy.ReaderProxy.repair_frags_requested.Lts as lts
-use Rattle.rtps_reader_proxy.proofs.proxy.ReaderProxy.check_frags.Reads as check-frags-reads
 
 check-frags-requires : tie.Need-check-frags-requires
 check-frags-requires c κs = search needs

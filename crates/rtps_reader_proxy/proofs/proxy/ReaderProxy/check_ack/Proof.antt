@@ -1,0 +1,41 @@
+-- `check_ack` meets its contract. Assumes nothing.
+use Rattle.rtps_reader_proxy.proofs.AckCalls.{ack-rows}
+use borrow.Author.Needs.{needs}
+use Rattle.rtps_reader_proxy.proofs.proxy.ReaderProxy.check_ack.Statement.{statement}
+use Rattle.rtps_reader_proxy.proofs.proxy.ReaderProxy.check_ack.Tie as tie
+
+unsent-ok-requires : tie.Need-unsent-ok-requires
+unsent-ok-requires c κs = search needs
+
+gaps-ok-requires : tie.Need-gaps-ok-requires
+gaps-ok-requires c κs = search needs
+
+within-requires : tie.Need-within-requires
+within-requires c κs = search needs
+
+rank-requires : tie.Need-rank-requires
+rank-requires c κs = search needs
+
+none-requires : tie.Need-none-requires
+none-requires c κs = search needs
+
+is-negative-requires : tie.Need-is-negative-requires
+is-negative-requires c κs = search needs
+
+add-rows : tie.Need-add-rows
+add-rows c = search needs
+
+rank-requires-2 : tie.Need-rank-requires-2
+rank-requires-2 c κs = search needs
+
+larger-requires : tie.Need-larger-requires
+larger-requires c κs = search needs
+
+of-requires : tie.Need-of-requires
+of-requires c κs = search needs
+
+returns : tie.Need-returns
+returns c = ack-rows (c .before .before .before .before .before .before .before .before .before .before .before .before .args .set) (c .before .before .before .before .before .before .before .before .before .before .before .before .args .last) (c .before .before .before .before .before .before .before .before .before .before .before .before .args .self) (c .before .before .before .before .before .before .before .before .before .before .before .before .args .unsent .now) (c .before .before .before .before .before .before .before .before .before .before .before .before .args .gaps .now) (c .of .result) (c .before .before .before .before .none .result) (c .before .before .before .before .before .before .before .before .unsent-ok .result) (c .before .before .before .before .before .before .before .gaps-ok .result) (c .before .before .before .before .before .before .within .result) (c .before .before .before .is-negative .result) (c .before .before .before .before .before .rank .result) (c .before .before .rank2 .result) (c .before .larger .result) (c .before .before .before .before .none .ensures) (c .before .before .before .before .before .before .before .before .unsent-ok .ensures) (c .before .before .before .before .before .before .before .gaps-ok .ensures) (c .before .before .before .before .before .before .within .ensures) (c .before .before .before .is-negative .ensures) (c .before .before .before .before .before .rank .ensures .is) (c .before .before .rank2 .ensures .is) (c .before .larger .ensures) (c .of .ensures)
+
+pub check-ack-spec : {M : Type 1} → statement M
+check-ack-spec = tie.close (tie.spec unsent-ok-requires gaps-ok-requires within-requires rank-requires none-requires is-negative-requires add-rows rank-requires-2 larger-requires of-requires returns)

@@ -1,0 +1,23 @@
+-- `check_request` meets its contract. Assumes nothing.
+use Rattle.rtps_reader_proxy.proofs.FragCalls.{rows-found}
+use borrow.Author.Needs.{needs}
+use Rattle.rtps_reader_proxy.proofs.proxy.ReaderProxy.check_request.Statement.{statement}
+use Rattle.rtps_reader_proxy.proofs.proxy.ReaderProxy.check_request.Tie as tie
+
+cannot-ask-requires : tie.Need-cannot-ask-requires
+cannot-ask-requires c κs = search needs
+
+rank-requires : tie.Need-rank-requires
+rank-requires c κs = search needs
+
+no-slot-requires : tie.Need-no-slot-requires
+no-slot-requires c κs = search needs
+
+check-frags-requires : tie.Need-check-frags-requires
+check-frags-requires c κs = search needs
+
+returns : tie.Need-returns
+returns c = rows-found (c .before .before .before .before .before .before .args .n) (c .before .before .before .before .before .before .args .set) (c .before .before .before .before .before .before .args .self) (c .before .before .before .before .before .before .args .samples .now) (c .before .before .before .before .before .before .args .words .now) (c .check-frags .result) (c .before .before .rank .result) (c .before .before .before .cannot-ask .result) (c .before .no-slot .result) (c .before .before .before .cannot-ask .ensures) (c .before .before .rank .ensures .is) (c .before .no-slot .ensures) (c .check-frags .ensures)
+
+pub check-request-spec : {M : Type 1} → statement M
+check-request-spec = tie.close (tie.spec cannot-ask-requires rank-requires no-slot-requires check-frags-requires returns)
