@@ -8,21 +8,15 @@ use Rattle.sets.proofs.Loops.{here, done, upto, upto-all}
 use Rattle.rising.specs.Runs.{filled}
 use mathlib.Core.List.{List, [], _∷_, _++_, append-nil, append-assoc}
 use native.Mathlib.Numerals.{add-one}
-use native.Mathlib.Nat.{min-eq-left, add-sub-of-le}
 use native.Mathlib.Omega.{arith}
-use lib.ListN.{length, take, drop, getD, set, replicate, drop-of-length-le, length-append, length-take, length-drop, length-replicate, List·getD-append, getD-replicate, take-append-drop}
-use lib.Seq.{drop-cons, take-suc, take-all, append-snoc, set-at, length-take-le, getD-append-add, getD-drop, getD-take, drop-drop, take-append-add}
+use lib.ListN.{length, take, drop, getD, set, replicate, length-append, length-take, length-drop, length-replicate, List·getD-append, take-append-drop}
+use lib.Seq.{take-suc, take-all, append-snoc, set-at, length-take-le, getD-append-add, getD-drop, getD-take, drop-drop, take-append-add, take-append-le, drop-append-seam}
 
 -- ---- zeros
 pub getD-zeros : (m j : ℕ) → _≡_ {A = ℕ} (getD (replicate m 0) j 0) 0
 getD-zeros zero j = refl
 getD-zeros (suc m) zero = refl
 getD-zeros (suc m) (suc j) = getD-zeros m j
-
-pub getD-padded : (l : List ℕ) (m j : ℕ) → length l ≤ j → getD (l ++ replicate m 0) j 0 ≡ 0
-getD-padded l m j h =
-    let e : j ≡ length l + (j - length l) = omega arith in
-    ap (λ (x : ℕ). getD (l ++ replicate m 0) x 0) e ∙ getD-append-add l (replicate m 0) (j - length l) 0 ∙ getD-zeros m (j - length l)
 
 -- ---- what `drop_front` leaves
 abbrev pub dropped : ℕ → List ℕ → List ℕ
@@ -37,8 +31,23 @@ dropped-front k s i h =
     let e : k + i ≡ i + k = omega arith in
     List·getD-append (drop k s) _ 0 i q ∙ getD-drop k s i 0 ∙ ap (λ (x : ℕ). getD s x 0) e
 
-pub dropped-back : (k : ℕ) (s : List ℕ) (i : ℕ) → length s - i ≤ k → getD (dropped k s) i 0 ≡ 0
-dropped-back k s i h = getD-padded (drop k s) (min k (length s)) i (rw length-drop (omega arith))
+-- the numbers that stay are moved, and the rest is cleared
+pub dropped-done : (k st : ℕ) (s m z : List ℕ) → st ≡ length s - min k (length s) → length m ≡ length s → m ≡ upto (dropped k s) s st → z ≡ replicate (length (take (length m - st) (drop st m))) 0
+    → take st m ++ (z ++ drop (length m - st) (drop st m)) ≡ dropped k s
+dropped-done k st s m z a b e f =
+    let ld : length (drop k s) ≡ st = rw length-drop (omega arith) in
+    let lt : length (take st (dropped k s)) ≡ st = length-take-le st (dropped k s) (omega (arith, dropped-length k s)) in
+    let x : take st m ≡ drop k s =
+    ap (take st) e ∙ take-append-le st (take st (dropped k s)) (drop st s) (omega arith) ∙ take-all st (take st (dropped k s)) (omega arith)
+    ∙ take-append-le st (drop k s) (replicate (min k (length s)) 0) (omega arith) ∙ take-all st (drop k s) (omega arith) in
+    let y : length (take (length m - st) (drop st m)) ≡ min k (length s) = simp (length-take, length-drop) (omega arith) in
+    let w : drop (length m - st) (drop st m) ≡ [] = done (drop st m) (length m - st) (rw length-drop (omega arith)) in
+    rw (x, f, y, w, append-nil)
+
+pub dropped-none : (k : ℕ) (s : List ℕ) → k ≡ 0 → s ≡ dropped k s
+dropped-none k s e =
+    let z : min 0 (length s) ≡ 0 = omega arith in
+    rw (e, z, append-nil)
 
 -- ---- a loop that writes a slice from the back: at turn i it holds `downto t s i`
 abbrev pub downto : List ℕ → List ℕ → ℕ → List ℕ
@@ -73,10 +82,26 @@ lifted-back k s i h l =
     let e : i ≡ length (replicate {A = ℕ} (min k (length s)) 0) + (i - k) = rw length-replicate (omega arith) in
     ap (λ (x : ℕ). getD (lifted k s) x 0) e ∙ getD-append-add (replicate (min k (length s)) 0) (take (length s - k) s) (i - k) 0 ∙ getD-take (length s - k) s (i - k) 0 (omega arith)
 
-pub lifted-front : (k : ℕ) (s : List ℕ) (i : ℕ) → i < k → i < length s → getD (lifted k s) i 0 ≡ 0
-lifted-front k s i h l =
-    let q : i < length (replicate {A = ℕ} (min k (length s)) 0) = rw length-replicate (omega arith) in
-    List·getD-append (replicate (min k (length s)) 0) (take (length s - k) s) 0 i q ∙ getD-replicate (min k (length s)) i 0 0 (omega arith)
+past : (i : ℕ) (l r : List ℕ) → length l ≡ i → drop i (l ++ r) ≡ r
+past i l r e = ap (λ (n : ℕ). drop n (l ++ r)) (sym e) ∙ drop-append-seam l r
+
+-- the numbers that stay are moved, and what is before them is cleared
+pub lifted-done : (k i : ℕ) (s m z : List ℕ) → i ≡ min k (length s) → length m ≡ length s → m ≡ downto (lifted k s) s i → z ≡ replicate (length (take (i - 0) (drop 0 m))) 0
+    → take 0 m ++ (z ++ drop (i - 0) (drop 0 m)) ≡ lifted k s
+lifted-done k i s m z a b e f =
+    let o : i - 0 ≡ i = omega arith in
+    let lm : length (take i m) ≡ i = length-take-le i m (omega arith) in
+    let lt : length (take i s) ≡ i = length-take-le i s (omega arith) in
+    let lr : length (replicate {A = ℕ} (min k (length s)) 0) ≡ i = length-replicate (min k (length s)) 0 ∙ sym a in
+    let x : drop i m ≡ take (length s - k) s = ap (drop i) e ∙ past i (take i s) (drop i (lifted k s)) lt ∙ past i (replicate (min k (length s)) 0) (take (length s - k) s) lr in
+    let y : z ≡ replicate (min k (length s)) 0 = f ∙ ap (λ (n : ℕ). replicate (length (take n m)) 0) o ∙ ap (λ (n : ℕ). replicate n 0) (lm ∙ a) in
+    rw (y, o, x)
+
+pub lifted-none : (k : ℕ) (s : List ℕ) → k ≡ 0 → s ≡ lifted k s
+lifted-none k s e =
+    let z : min 0 (length s) ≡ 0 = omega arith in
+    let f : length s - 0 ≡ length s = omega arith in
+    rw (e, z, f) (sym (take-all (length s) s (omega arith)))
 
 pub downto-none : (t s : List ℕ) → length t ≡ length s → s ≡ downto t s (length s)
 downto-none t s same = let q : length t ≤ length s = omega arith in rw (done t (length s) q, take-all (length s) s (omega arith), append-nil)

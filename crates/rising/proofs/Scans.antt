@@ -1,19 +1,19 @@
 -- The scans: what is left to read, from i on. Assumes nothing.
-use Prim.Native.Nat.{ℕ, zero, suc, _+_, _-_, _≤_, _<_, min}
-use mathlib.Core.Path.{_≡_, refl, sym, ap, _∙_}
+use Prim.Native.Nat.{ℕ, zero, suc, _+_, _-_, _*_, _^_, _%_, _≤_, _<_, min}
+use mathlib.Core.Path.{_≡_, refl, sym, ap, ap₂, _∙_}
 use mathlib.Core.Bool.{Bool, true, false, _&&_, _||_}
 use mathlib.Core.Logic.{_⊎_, inl, inr}
 use mathlib.Core.List.{List, [], _∷_}
 use native.Mathlib.Omega.{arith}
 use lib.Dec.{ltb, leb, eqb}
-use lib.Bits.{bitOr, or-add-and, and-le-l, and-le-r}
+use lib.Bits.{bitOr, bitAnd, or-add-and, or-lt, and-block, and-le-l, and-le-r}
 use lib.ListN.{length, take, drop, getD, length-drop}
 use lib.Seq.{take-all}
-use borrow.Author.Tests.{eqb-true, eqb-false, eq-eqb, ne-eqb, le-leb, lt-leb, leb-true, leb-false}
+use borrow.Author.Tests.{eqb-true, eqb-false, eq-eqb, ne-eqb, le-leb, lt-leb, leb-true, leb-false, lt-ltb, le-ltb, ltb-true, ltb-false}
 use Rattle.sets.specs.Sets.{has, firstOr}
-use Rattle.sets.proofs.Bools.{decide, or-assoc, and-assoc, and-yes}
+use Rattle.sets.proofs.Bools.{decide, or-assoc, and-assoc, and-yes, and-no, and-left}
 use Rattle.numbers.specs.Number.{topNumber}
-use Rattle.rising.specs.Runs.{risesAbove, zeros, runOk, holdsAt}
+use Rattle.rising.specs.Runs.{risesAbove, zeros, runOk, placeOf, holdsAt}
 use Rattle.sets.proofs.Loops.{here, done}
 
 or-zero : (a b : ℕ) → eqb (bitOr a b) 0 ≡ (eqb a 0 && eqb b 0)
@@ -32,15 +32,137 @@ zeros-more s i acc h e =
 pub zeros-end : (s : List ℕ) (i acc : ℕ) → length s ≤ i → zeros s ≡ (eqb acc 0 && zeros (drop i s)) → eqb acc 0 ≡ zeros s
 zeros-end s i acc h e = sym (e ∙ ap (λ (l : List ℕ). eqb acc 0 && zeros l) (done s i h) ∙ and-yes (eqb acc 0))
 
-pub rises-more : (p : ℕ) (s : List ℕ) (i low : ℕ) (good : Bool) → i < length s → risesAbove p s ≡ (good && risesAbove low (drop i s))
-    → risesAbove p s ≡ ((good && (ltb low (getD s i 0) && leb (getD s i 0) 9223372036854775806)) && risesAbove (getD s i 0) (drop (i + 1) s))
-rises-more p s i low good h e =
-    e ∙ ap (λ (l : List ℕ). good && risesAbove low l) (here s i h)
-    ∙ ap (λ (b : Bool). good && b) (sym (and-assoc (ltb low (getD s i 0)) (leb (getD s i 0) topNumber) (risesAbove (getD s i 0) (drop (i + 1) s))))
-    ∙ sym (and-assoc good (ltb low (getD s i 0) && leb (getD s i 0) topNumber) (risesAbove (getD s i 0) (drop (i + 1) s)))
+-- four words more, each or-ed to one of four
+abbrev pub four : ℕ → ℕ → ℕ → ℕ → ℕ
+four a b c d = bitOr (bitOr a b) (bitOr c d)
 
-pub rises-end : (p : ℕ) (s : List ℕ) (i low : ℕ) (good : Bool) → length s ≤ i → risesAbove p s ≡ (good && risesAbove low (drop i s)) → good ≡ risesAbove p s
-rises-end p s i low good h e = sym (e ∙ ap (λ (l : List ℕ). good && risesAbove low l) (done s i h) ∙ and-yes good)
+mix : (a b c d w x y z : Bool) → ((((((a && b) && (c && d)) && w) && x) && y) && z) ≡ (((a && w) && (b && x)) && ((c && y) && (d && z)))
+mix false b c d w x y z = refl
+mix true false c d w x y z = rw (and-no w)
+mix true true false d w x y z = sym (and-no (w && x))
+mix true true true false w x y z = rw (and-no y) (sym (and-no (w && x)))
+mix true true true true w x y z = and-assoc (w && x) y z
+
+four-zero : (a b c d : ℕ) → eqb (four a b c d) 0 ≡ ((eqb a 0 && eqb b 0) && (eqb c 0 && eqb d 0))
+four-zero a b c d = or-zero (bitOr a b) (bitOr c d) ∙ ap₂ _&&_ (or-zero a b) (or-zero c d)
+
+in-turn : (f w x y z l : Bool) → (f && (w && (x && (y && (z && l))))) ≡ (((((f && w) && x) && y) && z) && l)
+in-turn false w x y z l = refl
+in-turn true false x y z l = refl
+in-turn true true false y z l = refl
+in-turn true true true false z l = refl
+in-turn true true true true z l = refl
+
+four-more : (a b c d w x y z : ℕ) (l : List ℕ) → (eqb (four a b c d) 0 && zeros (w ∷ x ∷ y ∷ z ∷ l)) ≡ (eqb (four (bitOr a w) (bitOr b x) (bitOr c y) (bitOr d z)) 0 && zeros l)
+four-more a b c d w x y z l =
+    in-turn (eqb (four a b c d) 0) (eqb w 0) (eqb x 0) (eqb y 0) (eqb z 0) (zeros l)
+    ∙ ap (λ (f : Bool). ((((f && eqb w 0) && eqb x 0) && eqb y 0) && eqb z 0) && zeros l) (four-zero a b c d)
+    ∙ ap (λ (f : Bool). f && zeros l)
+    (mix (eqb a 0) (eqb b 0) (eqb c 0) (eqb d 0) (eqb w 0) (eqb x 0) (eqb y 0) (eqb z 0)
+    ∙ sym (four-zero (bitOr a w) (bitOr b x) (bitOr c y) (bitOr d z) ∙ ap₂ _&&_ (ap₂ _&&_ (or-zero a w) (or-zero b x)) (ap₂ _&&_ (or-zero c y) (or-zero d z))))
+
+four-ahead : (s : List ℕ) (i : ℕ) → i + 4 ≤ length s → drop i s ≡ getD s i 0 ∷ getD s (i + 1) 0 ∷ getD s (i + 2) 0 ∷ getD s (i + 3) 0 ∷ drop (i + 4) s
+four-ahead s i h =
+    let e : i + 1 + 1 ≡ i + 2 = omega arith in
+    let f : i + 2 + 1 ≡ i + 3 = omega arith in
+    let g : i + 3 + 1 ≡ i + 4 = omega arith in
+    rw (here s i (omega arith), here s (i + 1) (omega arith), e, here s (i + 2) (omega arith), f, here s (i + 3) (omega arith), g)
+
+pub zeros-four : (s : List ℕ) (i a b c d : ℕ) → i + 4 ≤ length s → zeros s ≡ (eqb (four a b c d) 0 && zeros (drop i s))
+    → zeros s ≡ (eqb (four (bitOr a (getD s i 0)) (bitOr b (getD s (i + 1) 0)) (bitOr c (getD s (i + 2) 0)) (bitOr d (getD s (i + 3) 0))) 0 && zeros (drop (i + 4) s))
+zeros-four s i a b c d h e =
+    e ∙ ap (λ (l : List ℕ). eqb (four a b c d) 0 && zeros l) (four-ahead s i h)
+    ∙ four-more a b c d (getD s i 0) (getD s (i + 1) 0) (getD s (i + 2) 0) (getD s (i + 3) 0) (drop (i + 4) s)
+
+and-mix : (a b c d : Bool) → ((a && b) && (c && d)) ≡ ((a && c) && (b && d))
+and-mix true true c d = refl
+and-mix true false c d = sym (and-no c)
+and-mix false b c d = refl
+
+-- THE RISING TEST: below 2^63 the top bit of a wrapping difference tells the smaller
+
+abbrev pub top : ℕ
+top = 9223372036854775808
+
+-- the top bit of an or, and of an and
+or-top : (a b : ℕ) → ltb (bitOr a b) top ≡ (ltb a top && ltb b top)
+or-top a b = go (decide (ltb a top)) (decide (ltb b top))
+  where
+    go : (ltb a top ≡ true) ⊎ (ltb a top ≡ false) → (ltb b top ≡ true) ⊎ (ltb b top ≡ false)
+        → ltb (bitOr a b) top ≡ (ltb a top && ltb b top)
+    go (inl p) (inl q) = rw (p, q) (lt-ltb (bitOr a b) top (or-lt 63 a b (ltb-true a top p) (ltb-true b top q)))
+    go (inl p) (inr q) = rw (p, q) (le-ltb (bitOr a b) top (omega (arith, or-add-and a b, and-le-l a b, ltb-false b top q)))
+    go (inr p) q = rw p (le-ltb (bitOr a b) top (omega (arith, or-add-and a b, and-le-r a b, ltb-false a top p)))
+
+both-top : (a b : ℕ) → top ≤ a → a < 18446744073709551616 → top ≤ b → b < 18446744073709551616 → top ≤ bitAnd a b
+both-top a b p q r s =
+    let x = a - top in
+    let y = b - top in
+    let ex : a ≡ 1 * 2 ^ 63 + x = omega arith in
+    let ey : b ≡ 1 * 2 ^ 63 + y = omega arith in
+    let e : bitAnd a b ≡ bitAnd 1 1 * 2 ^ 63 + bitAnd x y = ap₂ bitAnd ex ey ∙ and-block 63 1 1 x y (omega arith) (omega arith) in
+    omega (arith, e)
+
+and-top : (a b : ℕ) → a < 18446744073709551616 → b < 18446744073709551616 → leb top (bitAnd a b) ≡ (leb top a && leb top b)
+and-top a b m n = go (decide (leb top a)) (decide (leb top b))
+  where
+    go : (leb top a ≡ true) ⊎ (leb top a ≡ false) → (leb top b ≡ true) ⊎ (leb top b ≡ false) → leb top (bitAnd a b) ≡ (leb top a && leb top b)
+    go (inl p) (inl q) = rw (p, q) (le-leb top (bitAnd a b) (both-top a b (leb-true top a p) m (leb-true top b q) n))
+    go (inl p) (inr q) = rw (p, q) (lt-leb top (bitAnd a b) (omega (arith, and-le-r a b, leb-false top b q)))
+    go (inr p) q = rw p (lt-leb top (bitAnd a b) (omega (arith, and-le-l a b, leb-false top a p)))
+
+-- so far no number had the top bit, and every difference did
+abbrev pub climbs : ℕ → ℕ → Bool
+climbs high up = ltb high top && leb top up
+
+-- x is a sample number, and what follows rises from it
+abbrev pub rest : ℕ → List ℕ → Bool
+rest x l = leb x topNumber && risesAbove x l
+
+module _ (high up a b r : ℕ) (m : up < 18446744073709551616) (n : r < 18446744073709551616) (w : (r + b) % 2 ^ 64 ≡ a) where
+  one-step : b ≤ topNumber → climbs (bitOr high a) (bitAnd up r) ≡ (climbs high up && (leb a topNumber && ltb a b))
+  one-step s =
+      ap₂ _&&_ (or-top high a) (and-top up r m n)
+      ∙ and-mix (ltb high top) (ltb a top) (leb top up) (leb top r)
+      ∙ ap (λ (x : Bool). climbs high up && x) (go (decide (ltb a b)) (decide (ltb a top)))
+    where
+      go : (ltb a b ≡ true) ⊎ (ltb a b ≡ false) → (ltb a top ≡ true) ⊎ (ltb a top ≡ false) → (ltb a top && leb top r) ≡ (leb a topNumber && ltb a b)
+      go (inl p) q = let h = ltb-true a b p in rw (p, lt-ltb a top (omega arith), le-leb a topNumber (omega arith), le-leb top r (omega arith))
+      go (inr p) (inl q) =
+          let h = ltb-false a b p in
+          let k = ltb-true a top q in
+          rw (p, q, lt-leb top r (omega arith)) (sym (and-no (leb a topNumber)))
+      go (inr p) (inr q) = rw (p, q) (sym (and-no (leb a topNumber)))
+
+  steps : (l : List ℕ) → (climbs high up && rest a (b ∷ l)) ≡ (climbs (bitOr high a) (bitAnd up r) && rest b l)
+  steps l = go (decide (rest b l))
+    where
+      go : (rest b l ≡ true) ⊎ (rest b l ≡ false) → (climbs high up && rest a (b ∷ l)) ≡ (climbs (bitOr high a) (bitAnd up r) && rest b l)
+      go (inl p) =
+          let s : b ≤ topNumber = leb-true b topNumber (and-left (leb b topNumber) (risesAbove b l) p) in
+          rw (p, and-yes (ltb a b), and-yes (climbs (bitOr high a) (bitAnd up r))) (sym (one-step s))
+      go (inr p) = rw (p, and-no (ltb a b), and-no (leb a topNumber), and-no (climbs high up), and-no (climbs (bitOr high a) (bitAnd up r)))
+
+pub rises-none : (p : ℕ) (s : List ℕ) → length s ≡ 0 → true ≡ risesAbove p s
+rises-none p [] e = refl
+rises-none p (x ∷ xs) e = absurd (omega arith)
+
+pub rises-first : (p : ℕ) (s : List ℕ) → 0 < length s → risesAbove p s ≡ (ltb p (getD s 0 0) && rest (getD s 0 0) (drop 1 s))
+rises-first p [] h = absurd (omega arith)
+rises-first p (x ∷ xs) h = refl
+
+pub rises-more : (s : List ℕ) (i high up r : ℕ) (q t : Bool) → 1 ≤ i → i < length s → up < 18446744073709551616 → r < 18446744073709551616
+    → (r + getD s i 0) % 2 ^ 64 ≡ getD s (i - 1) 0 → q ≡ (t && (climbs high up && rest (getD s (i - 1) 0) (drop i s)))
+    → q ≡ (t && (climbs (bitOr high (getD s (i - 1) 0)) (bitAnd up r) && rest (getD s (i + 1 - 1) 0) (drop (i + 1) s)))
+rises-more s i high up r q t o h m n w e =
+    let z : i + 1 - 1 ≡ i = omega arith in
+    rw z (e ∙ ap (λ (x : Bool). t && x) (ap (λ (l : List ℕ). climbs high up && rest (getD s (i - 1) 0) l) (here s i h) ∙ steps high up (getD s (i - 1) 0) (getD s i 0) r m n w (drop (i + 1) s)))
+
+pub rises-end : (s : List ℕ) (i high up : ℕ) (q t : Bool) → 1 ≤ i → i ≤ length s → length s ≤ i → q ≡ (t && (climbs high up && rest (getD s (i - 1) 0) (drop i s)))
+    → (t && (climbs high up && leb (getD s (length s - 1) 0) topNumber)) ≡ q
+rises-end s i high up q t o k h e =
+    let z : i ≡ length s = omega arith in
+    sym (e ∙ ap (λ (x : Bool). t && (climbs high up && x)) (ap (rest (getD s (i - 1) 0)) (done s i h) ∙ and-yes (leb (getD s (i - 1) 0) topNumber) ∙ ap (λ (x : ℕ). leb (getD s (x - 1) 0) topNumber) z))
 
 -- the check of a room
 pub run-short : (p count : ℕ) (s : List ℕ) → length s < count → false ≡ runOk p count s
@@ -49,6 +171,13 @@ run-short p count s h = rw (lt-leb count (length s) h)
 pub run-whole : (p count : ℕ) (s : List ℕ) (good clear : Bool) → count ≤ length s → good ≡ risesAbove p (take count s) → clear ≡ zeros (take (length s - count) (drop count s)) → (good && clear) ≡ runOk p count s
 run-whole p count s good clear h e f =
     rw (le-leb count (length s) h, ← e) (ap (λ (b : Bool). good && b) (f ∙ ap zeros (take-all (length s - count) (drop count s) (omega (arith, length-drop count s)))))
+
+-- the place of n
+pub place-hit : (s : List ℕ) (n i : ℕ) → i < length s → n ≤ getD s i 0 → placeOf n (drop i s) ≡ 0
+place-hit s n i h l = rw (here s i h, le-leb n (getD s i 0) l)
+
+pub place-miss : (s : List ℕ) (n i j : ℕ) → i < length s → getD s i 0 < n → j ≡ i + 1 → placeOf n (drop i s) ≡ 1 + placeOf n (drop j s)
+place-miss s n i j h l e = rw (e, here s i h, lt-leb n (getD s i 0) l) (omega arith)
 
 -- whether n stands at i
 pub holds-in : (n : ℕ) (l : List ℕ) (i : ℕ) → i < length l → eqb (getD l i 0) n ≡ holdsAt n l i

@@ -1,9 +1,9 @@
 -- `copy` meets its contract. Assumes nothing.
-use Prim.Native.Nat.{ℕ, _≤_, _<_, _+_, _-_, min}
-use mathlib.Core.Path.{_≡_, refl, sym, ap, _∙_}
+use Prim.Native.Nat.{ℕ, _≤_, _<_, _-_, min}
+use mathlib.Core.Path.{_≡_, sym, ap, _∙_}
 use mathlib.Core.List.{List}
 use native.Mathlib.Omega.{arith}
-use lib.ListN.{length, take, drop, getD, set, length-set}
+use lib.ListN.{length, getD, set, length-set}
 use Rattle.rising.specs.Runs.{filled}
 use Rattle.sets.proofs.Loops.{upto, upto-more}
 use Rattle.rising.proofs.Lists.{filled-length, filled-at, filled-end}

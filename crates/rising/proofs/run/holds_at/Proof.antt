@@ -1,17 +1,5 @@
 -- `holds_at` meets its contract. Assumes nothing.
-use Prim.Native.Nat.{ℕ, _≤_, _<_, _+_, _-_}
-use mathlib.Core.Path.{_≡_, refl, sym, ap, _∙_}
-use mathlib.Core.Bool.{_&&_}
-use mathlib.Core.List.{List}
-use mathlib.Core.Logic.{⊎-elim}
-use native.Mathlib.Omega.{arith}
-use lib.Dec.{eqb}
-use lib.ListN.{length, take, drop, getD, set, length-set}
-use borrow.Author.Tests.{le-leb, lt-leb}
-use Rattle.rising.specs.Runs.{risesAbove, zeros, placeOf}
-use Rattle.sets.proofs.Loops.{here, done, upto, upto-more, upto-kept, upto-all}
-use Rattle.rising.proofs.Lists.{dropped, dropped-length, dropped-front, dropped-back, downto, downto-more, downto-kept, downto-none, downto-step, lifted, lifted-length, lifted-front, lifted-back}
-use Rattle.rising.proofs.Scans.{rises-more, rises-end, zeros-more, zeros-end, run-short, run-whole, holds-in, holds-out}
+use Rattle.rising.proofs.Scans.{holds-in, holds-out}
 use borrow.Author.Needs.{needs}
 use Rattle.rising.proofs.run.holds_at.Statement.{statement}
 use Rattle.rising.proofs.run.holds_at.Tie as tie
