@@ -1,11 +1,9 @@
 -- What is done with the words of a set, bit by bit. Assumes nothing.
-use Prim.Native.Nat.{ℕ, _+_, _-_, _/_, _%_, _^_, _<_, min, max}
+use Prim.Native.Nat.{ℕ, _+_, _-_, _^_, _<_, min, max}
 use mathlib.Core.Path.{_≡_}
 use mathlib.Core.Bool.{Bool, cond, _&&_, _||_}
 use mathlib.Core.List.{List}
 use lib.Dec.{leb, ltb}
-use lib.ListN.{getD, set}
-use lib.Bits.{bitOr}
 use Rattle.sets.specs.Sets.{has}
 use Rattle.number_sets.specs.declared.words.Bits.{Bits}
 use Rattle.number_sets.specs.Bits.{bitOf, bitAt, eightWords, inWindow, span}
@@ -18,9 +16,6 @@ pub record Kept (w a e r : ℕ) : Type 0 where
 -- the place of n in a set with the base b; 256 for a number that the set can't have
 abbrev pub placeIn : ℕ → ℕ → ℕ
 placeIn b n = cond (leb b n) (min (n - b) 256) 256
-
-abbrev pub withBit : List ℕ → ℕ → List ℕ
-withBit ws i = set ws (i / 32) (bitOr (getD ws (i / 32) 0) (2 ^ (31 - i % 32)))
 
 -- the bits that count, and those of the numbers ns
 abbrev pub joinedBits : Bits → ℕ → List ℕ → Bits

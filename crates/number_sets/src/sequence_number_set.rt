@@ -13,6 +13,7 @@ use numbers::Cursor;
 use numbers::NextNumber;
 use numbers::Rows;
 use numbers::SequenceNumber;
+use numbers::arith::smaller;
 
 #[repr(C)]
 pub struct SequenceNumberSet {
@@ -176,7 +177,7 @@ impl SequenceNumberSet {
         let first = base.rank();
         let a = words::start_of(first, lo);
         let e = words::stop_of(first, hi);
-        let words = words::cut_bits(words, a, words::smaller(e, count as usize));
+        let words = words::cut_bits(words, a, smaller(e, count as usize));
         SequenceNumberSet { base, count, words }
     }
 

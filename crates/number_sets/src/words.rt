@@ -8,17 +8,12 @@ ghost use lib.ListN.{length};
 ghost use Rattle.sets.specs.Sets.{has, those};
 ghost use Rattle.number_sets.specs.Bits.{bitAt, nextBit, eightWords};
 ghost use Rattle.number_sets.specs.Words.{Kept, placeIn, joinedBits};
+use numbers::arith::smaller;
 
 // Words, and how many of their bits count.
 pub struct Bits {
     pub count: u32,
     pub words: [u32; 8],
-}
-
-pub fn smaller(a: usize, b: usize) -> usize
-    ensures { λ r. ⌜ r ≡ min a b ⌝ }
-{
-    if a < b { a } else { b }
 }
 
 // The first set bit at or after `from` and below `count`, or below 256 where the count is larger; that end itself where there is none. A word with no

@@ -3,6 +3,7 @@ ghost use mathlib.Core.Path.{_≡_};
 ghost use Prim.Native.Nat.{max};
 ghost use Rattle.reader_list.specs.Slots.{frontierOf, frontierAt};
 use numbers::SequenceNumber;
+use numbers::arith::larger;
 
 // A free slot is all zeros: its id is 0.
 #[repr(C)]
@@ -22,12 +23,6 @@ pub struct AckedFrontier {
 impl ReaderHead {
     // The most readers that a list has slots for.
     pub const MOST: usize = 64;
-}
-
-pub fn larger(a: u64, b: u64) -> u64
-    ensures { λ r. ⌜ r ≡ max a b ⌝ }
-{
-    if a < b { b } else { a }
 }
 
 impl AckedFrontier {

@@ -7,8 +7,8 @@ ghost use Rattle.reader_list.specs.Readers.{meet, slotFits};
 ghost use Rattle.reader_list.specs.Slots.{headOf, freeSlot};
 ghost use Rattle.reader_list.specs.Walk.{begun, counted, placed, seenStep, isWhole};
 use crate::heads::ReaderHead;
-use crate::heads::larger;
 use numbers::SequenceNumber;
+use numbers::arith::larger;
 
 // What a call asks.
 pub struct Ask {

@@ -88,6 +88,6 @@ fn search_bits(words: &[u64], f: u64) -> u64
 pub fn next(words: &[u64], f: u64) -> u64
     ensures { λ r. ⌜ r ≡ nextIn f (take 64 (now (words .entry))) ⌝ }
 {
-    let end = rising::run::smaller(64, words.len());
+    let end = numbers::arith::smaller(64, words.len());
     search_bits(&words[..end], f)
 }

@@ -6,12 +6,13 @@ ghost use Rattle.sets.specs.Sets.{has, smallest, firstOr};
 ghost use Rattle.numbers.specs.Promise.{Gives1};
 ghost use Rattle.rising.specs.Runs.{inRoom, cutOut, openedWithin, putIn, over, removed, fromOn, before, insertWithin, newest};
 use crate::run;
+use numbers::arith::smaller;
 
 // Whether n is in the run.
 pub fn holds(s: &[u64], count: usize, n: u64) -> bool
     ensures { λ r. ⌜ r ≡ has (take count (now (s .entry))) n ⌝ }
 {
-    let end = run::smaller(count, s.len());
+    let end = smaller(count, s.len());
     run::contains(&s[..end], n)
 }
 
@@ -19,7 +20,7 @@ pub fn holds(s: &[u64], count: usize, n: u64) -> bool
 pub fn first_from(s: &[u64], count: usize, n: u64) -> u64
     ensures { λ r. ⌜ r ≡ firstOr 0 (fromOn n (take count (now (s .entry)))) ⌝ }
 {
-    let end = run::smaller(count, s.len());
+    let end = smaller(count, s.len());
     let i = run::place(&s[..end], n);
     if i < end { s[i] } else { 0 }
 }
@@ -34,7 +35,7 @@ pub fn cut(s: &mut [u64], count: usize, i: usize, k: usize) -> usize
     if count <= i {
         return count;
     }
-    let gone = run::smaller(k, count - i);
+    let gone = smaller(k, count - i);
     run::drop_front(&mut s[i..count], gone);
     count - gone
 }
@@ -46,8 +47,8 @@ pub fn open(s: &mut [u64], count: usize, i: usize, k: usize) -> usize
     if s.len() < count {
         return count;
     }
-    let at = run::smaller(i, count);
-    let end = count + run::smaller(k, s.len() - count);
+    let at = smaller(i, count);
+    let end = count + smaller(k, s.len() - count);
     run::lift(&mut s[at..end], k);
     end
 }

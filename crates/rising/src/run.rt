@@ -7,6 +7,7 @@ ghost use lib.Dec.{ltb};
 ghost use lib.ListN.{length, take, drop, replicate};
 ghost use Rattle.sets.specs.Sets.{has};
 ghost use Rattle.rising.specs.Runs.{risesAbove, zeros, runOk, placeOf, holdsAt, filled};
+use numbers::arith::smaller;
 
 // Whether the numbers rise strictly, all above `above` and none above 2 ^ 63 - 2. Of numbers below 2 ^ 63 the smaller is seen by the top bit of a difference
 // that wraps: nothing is tested in a turn, and this becomes vector code.
@@ -182,10 +183,4 @@ pub fn copy(from: &[u64], to: &mut [u64])
         to[i] = from[i];
         i += 1;
     }
-}
-
-pub fn smaller(a: usize, b: usize) -> usize
-    ensures { λ r. ⌜ r ≡ min a b ⌝ }
-{
-    if a < b { a } else { b }
 }

@@ -6,12 +6,12 @@ ghost use Rattle.numbers.specs.Promise.{Gives1, Gives2};
 ghost use Rattle.numbers.specs.Refusals.{answerOf};
 ghost use Rattle.rtps_reader_proxy.specs.Reader.{staying};
 ghost use Rattle.rtps_reader_proxy.specs.Acks.{ackNackedOf, ackRows, ackLeaves, ackedWith, Ackable, runLeft, Stayable, Joinable, joining};
-use crate::arith;
 use crate::proxy::ReaderProxy;
 use number_sets::SequenceNumberSet;
 use numbers::Answer;
 use numbers::Rows;
 use numbers::SequenceNumber;
+use numbers::arith;
 use rising::room;
 use rising::run;
 

@@ -10,7 +10,6 @@ ghost use Rattle.numbers.specs.Refusals.{row, rowsOf, answerOf};
 ghost use Rattle.rtps_reader_proxy.specs.Reader.{needsRoom};
 ghost use Rattle.rtps_reader_proxy.specs.Record.{gapsOk, changed};
 ghost use Rattle.rtps_reader_proxy.specs.Gaps.{byGaps, beyond, gapInsertedOf, gapUpToOf, nextGapOf, countGaps, countMembers};
-use crate::arith;
 use crate::proxy::Changed;
 use crate::proxy::ReaderProxy;
 use numbers::Answer;
@@ -18,6 +17,7 @@ use numbers::Cursor;
 use numbers::NextNumber;
 use numbers::Rows;
 use numbers::SequenceNumber;
+use numbers::arith;
 use rising::room;
 
 // The first number of the gap: within the prefix, or a member.

@@ -1,6 +1,5 @@
 // One reader as the writer keeps it: a small head by value, its rooms lent.
 pub mod acks;
-mod arith;
 pub mod fragments;
 pub mod gaps;
 pub mod proxy;

@@ -14,6 +14,7 @@ use numbers::Cursor;
 use numbers::NextNumber;
 use numbers::Rows;
 use numbers::SequenceNumber;
+use numbers::arith;
 use rising::room;
 use rising::run;
 
@@ -129,7 +130,7 @@ impl ReaderProxy {
                 proxy: self,
             };
         }
-        let count = run::smaller(self.unsent_count, out.len());
+        let count = arith::smaller(self.unsent_count, out.len());
         run::copy(&unsent[..count], out);
         let left = room::cut(unsent, self.unsent_count, 0, count);
         self.with_taken(answer, count, left)

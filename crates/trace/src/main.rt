@@ -9,6 +9,7 @@ use explain::put_explained;
 use libc::STDERR_FILENO;
 use libc::STDIN_FILENO;
 use libc::STDOUT_FILENO;
+use numbers::arith::smaller;
 use trace_answers::follow_held;
 use trace_answers::put_followed;
 use trace_run::Followed;
@@ -29,12 +30,6 @@ struct Run {
 struct Turn {
     more: bool,
     run: Run,
-}
-
-fn smaller(a: usize, b: usize) -> usize
-    ensures { λ r. ⌜ (r ≤ a) × (r ≤ b) ⌝ }
-{
-    if a < b { a } else { b }
 }
 
 // One more, as long as that is a number.

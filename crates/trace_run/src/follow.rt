@@ -7,14 +7,9 @@ ghost use Rattle.trace_lines.specs.Lines.{said};
 ghost use Rattle.trace_run.specs.Follow.{firstBy, laterBy, followedBy, followOf};
 use crate::state::Followed;
 use crate::state::Trace;
+use numbers::arith::smaller;
 use trace_lines::Command;
 use trace_lines::read_line;
-
-fn smaller(a: usize, b: usize) -> usize
-    ensures { λ r. ⌜ (r ≡ min a b) × ((r ≤ a) × (r ≤ b)) ⌝ }
-{
-    if a < b { a } else { b }
-}
 
 impl Trace {
     // Before a line has made the writer.

@@ -13,6 +13,7 @@ use numbers::Answer;
 use numbers::FragmentNumber;
 use numbers::Rows;
 use numbers::SequenceNumber;
+use numbers::arith::above;
 use reader_list::arrays::lookup_in_2;
 use rtps_reader_proxy::ReaderProxy;
 use writer_steps::answers::earlier;
@@ -26,15 +27,6 @@ fn pieces_with(base: u32, count: u32) -> FragmentNumberSet
         count,
         words: [0, 0, 0, 0, 0, 0, 0, 0],
     }
-}
-
-fn above(a: u64, b: u64) -> u64
-    ensures { λ r. ⌜ r ≡ a - b ⌝ }
-{
-    if a < b {
-        return 0;
-    }
-    a - b
 }
 
 // The set of a line; what is to be refused with 3 or 2 is a set that is, in its turn.

@@ -8,17 +8,12 @@ use crate::state::Followed;
 use crate::state::Trace;
 use crate::state::coherence;
 use numbers::SequenceNumber;
+use numbers::arith::smaller;
 use reader_list::ReaderHead;
 use rtps_reader_proxy::ReaderProxy;
 use writer_send_buffer::Admitted;
 use writer_send_buffer::Limits;
 use writer_send_buffer::WriterSendBuffer;
-
-fn smaller(a: usize, b: usize) -> usize
-    ensures { λ r. ⌜ (r ≡ min a b) × ((r ≤ a) × (r ≤ b)) ⌝ }
-{
-    if a < b { a } else { b }
-}
 
 // As many slots as the rooms can have.
 fn slots_in(limits: Limits) -> usize

@@ -6,11 +6,11 @@ ghost use Rattle.writer_send_buffer.specs.Flow.{room, trims, full, trimm
 ghost use Rattle.writer_send_buffer.specs.Buffer.{view, form, isCoherent, limited, ranged, newOf, roomOf, firstOf, lastOf};
 use crate::limits::Kind;
 use crate::limits::Limits;
-use crate::limits::above;
 use numbers::Answer;
 use numbers::Rows;
 use numbers::SequenceNumber;
-use reader_list::heads::larger;
+use numbers::arith::above;
+use numbers::arith::larger;
 
 // The flow record. The payloads stand in a lent store beside it.
 #[repr(C)]

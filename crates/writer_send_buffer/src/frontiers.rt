@@ -6,8 +6,8 @@ use crate::flow::Told;
 use crate::flow::WriterSendBuffer;
 use crate::flow::range_answer;
 use numbers::SequenceNumber;
+use numbers::arith::larger;
 use reader_list::AckedFrontier;
-use reader_list::heads::larger;
 
 // Whether to wake who waits, with the record as it then is.
 #[repr(C)]

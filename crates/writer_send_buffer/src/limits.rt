@@ -2,7 +2,7 @@
 ghost use mathlib.Core.Path.{_≡_};
 ghost use Prim.Native.Nat.{_-_};
 ghost use Rattle.writer_send_buffer.specs.Flow.{allowed, counted};
-use reader_list::heads::larger;
+use numbers::arith::larger;
 
 #[repr(C)]
 pub struct Kind {
@@ -18,13 +18,6 @@ pub struct Limits {
     pub retain: u64,
     pub slots: u64,
     pub slot_bytes: u64,
-}
-
-// How far a is above b.
-pub fn above(a: u64, b: u64) -> u64
-    ensures { λ r. ⌜ r ≡ a - b ⌝ }
-{
-    if b <= a { a - b } else { 0 }
 }
 
 impl Limits {

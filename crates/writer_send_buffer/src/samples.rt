@@ -8,10 +8,10 @@ ghost use Rattle.writer_send_buffer.specs.Buffer.{fetched};
 ghost use Rattle.writer_send_buffer.specs.Samples.{Run, Slot, over, lengthsFit, isCoherentStore, admitOf, handed, locateOf, fetchOf};
 use crate::flow::Numbered;
 use crate::flow::WriterSendBuffer;
-use crate::limits::above;
 use numbers::Answer;
 use numbers::Rows;
 use numbers::SequenceNumber;
+use numbers::arith::above;
 
 // What a write is answered, with the record as it then is.
 #[repr(C)]

@@ -13,7 +13,7 @@ use Rattle.number_sets.proofs.words.next_bit.Statement.{statement}
 use Rattle.number_sets.proofs.words.next_bit.Tie as tie
 use Rattle.number_sets.proofs.words.next_bit.Reads as reads
 use Rattle.number_sets.proofs.words.next_bit.Lts as lts
-use Rattle.number_sets.proofs.words.smaller.Reads as smaller-reads
+use Rattle.numbers.proofs.arith.smaller.Reads as smaller-reads
 
 abbrev Inv-loop : tie.InvT-loop
 Inv-loop words count from end i₀ i = (from ≤ i) × ((m : ℕ) → from ≤ m → m < i → bitAt words m ≡ false)

@@ -13,7 +13,7 @@ use Rattle.requested_fragments.proofs.bits.next.Tie as tie
 use Rattle.requested_fragments.proofs.bits.next.Reads as reads
 use Rattle.requested_fragments.proofs.bits.next.Lts as lts
 use Rattle.requested_fragments.proofs.bits.search_bits.Reads as search-bits-reads
-use Rattle.rising.proofs.run.smaller.Reads as smaller-reads
+use Rattle.numbers.proofs.arith.smaller.Reads as smaller-reads
 
 smaller-requires : tie.Need-smaller-requires
 smaller-requires c κs = search needs

@@ -14,7 +14,7 @@ use Rattle.rising.proofs.room.first_from.Tie as tie
 use Rattle.rising.proofs.room.first_from.Reads as reads
 use Rattle.rising.proofs.room.first_from.Lts as lts
 use Rattle.rising.proofs.run.place.Reads as place-reads
-use Rattle.rising.proofs.run.smaller.Reads as smaller-reads
+use Rattle.numbers.proofs.arith.smaller.Reads as smaller-reads
 
 smaller-requires : tie.Need-smaller-requires
 smaller-requires c κs = search needs

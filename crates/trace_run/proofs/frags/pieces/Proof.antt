@@ -20,7 +20,7 @@ use Rattle.trace_run.proofs.frags.pieces.Reads as reads
 use Rattle.trace_run.proofs.frags.pieces.Lts as lts
 use Rattle.number_sets.proofs.fragment_number_set.FragmentNumberSet.of_numbers.Reads as of-numbers-reads
 use Rattle.numbers.proofs.fragment_number.FragmentNumber.from_rank.Reads as from-rank-reads
-use Rattle.trace_run.proofs.frags.above.Reads as above-reads
+use Rattle.numbers.proofs.arith.above.Reads as above-reads
 use Rattle.trace_run.proofs.frags.pieces_with.Reads as pieces-with-reads
 
 pieces-with-requires : tie.Need-pieces-with-requires

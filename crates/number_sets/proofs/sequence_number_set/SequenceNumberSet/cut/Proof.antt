@@ -11,7 +11,7 @@ use Rattle.number_sets.proofs.sequence_number_set.SequenceNumberSet.cut
 use Rattle.number_sets.proofs.sequence_number_set.SequenceNumberSet.cut.Reads as reads
 use Rattle.number_sets.proofs.sequence_number_set.SequenceNumberSet.cut.Lts as lts
 use Rattle.number_sets.proofs.words.cut_bits.Reads as cut-bits-reads
-use Rattle.number_sets.proofs.words.smaller.Reads as smaller-reads
+use Rattle.numbers.proofs.arith.smaller.Reads as smaller-reads
 use Rattle.number_sets.proofs.words.start_of.Reads as start-of-reads
 use Rattle.number_sets.proofs.words.stop_of.Reads as stop-of-reads
 use Rattle.numbers.proofs.sequence_number.SequenceNumber.rank.Reads as rank-reads

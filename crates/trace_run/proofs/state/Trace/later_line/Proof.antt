@@ -22,7 +22,7 @@ use Rattle.trace_run.proofs.state.Trace.later_line.Statement.{statement
 use Rattle.trace_run.proofs.state.Trace.later_line.Tie as tie
 use Rattle.trace_run.proofs.state.Trace.later_line.Reads as reads
 use Rattle.trace_run.proofs.state.Trace.later_line.Lts as lts
-use Rattle.trace_run.proofs.follow.smaller.Reads as smaller-reads
+use Rattle.numbers.proofs.arith.smaller.Reads as smaller-reads
 use Rattle.trace_run.proofs.state.Trace.ack_step.Reads as ack-step-reads
 use Rattle.trace_run.proofs.state.Trace.evict_step.Reads as evict-step-reads
 use Rattle.trace_run.proofs.state.Trace.frag_step.Reads as frag-step-reads

@@ -18,7 +18,7 @@ use Rattle.trace_run.proofs.state.Trace.write_step.Reads as reads
 use Rattle.trace_run.proofs.state.Trace.write_step.Lts as lts
 use Rattle.trace_run.proofs.state.Trace.incoherent.Reads as incoherent-reads
 use Rattle.trace_run.proofs.state.Trace.written.Reads as written-reads
-use Rattle.trace_run.proofs.write.smaller.Reads as smaller-reads
+use Rattle.numbers.proofs.arith.smaller.Reads as smaller-reads
 
 incoherent-requires : tie.Need-incoherent-requires
 incoherent-requires c κs = search needs
