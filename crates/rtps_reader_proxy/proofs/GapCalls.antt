@@ -10,7 +10,7 @@ use lib.Dec.{leb, ltb, eqb}
 use lib.ListN.{length, take, length-take}
 use lib.Seq.{length-take-le}
 use borrow.Author.Tests.{not-false, not-true, eqb-true, eqb-false, leb-true, leb-false, le-leb, lt-leb, ltb-true, ltb-false, ne-eqb}
-use Rattle.numbers.specs.Number.{topNumber, rankOf, isSample, inRange, numberAt}
+use Rattle.numbers.specs.Number.{topNumber, rankOf, isSample, inRange, negative, numberAt}
 use Rattle.numbers.specs.Refusals.{Row, row, rowsOf, answerOf, done, unless}
 use Rattle.numbers.specs.Promise.{Left1, Gives1}
 use Rattle.numbers.specs.declared.answer.Answer.{Answer}
@@ -31,7 +31,7 @@ use Rattle.rtps_reader_proxy.specs.declared.proxy.ReaderProxy.{ReaderPro
 use Rattle.rtps_reader_proxy.specs.declared.proxy.Changed.{Changed}
 use Rattle.rtps_reader_proxy.specs.Reader.{Reader, needsRoom, gapInserted, gapUpTo, nextGap}
 use Rattle.rtps_reader_proxy.specs.Record.{headOk, gapsOk, gapFloor, seen, gapRoom, changed}
-use Rattle.rtps_reader_proxy.specs.Gaps.{countGaps, countMembers, byGaps, gapsBy, beyond, gapInsertedOf, nextGapOf}
+use Rattle.rtps_reader_proxy.specs.Gaps.{countGaps, countMembers, byGaps, gapsBy, beyond, gapInsertedOf, gapUpToOf, nextGapOf}
 
 -- what the check of the head says of the prefix end
 pub head-prefix : (h : ReaderProxy) → headOk h ≡ true → inRange (h .«gap_prefix_end») topNumber ≡ true
@@ -139,6 +139,34 @@ module _ (h : ReaderProxy) (gaps : List ℕ) (rows : List Row) (a : Answer) (q :
         go true true e f = e
         go true false e f = sym f
         go false t e f = refl
+
+-- the rows of a call with a member, by what the code found of it
+pub member-rows : (n last : SequenceNumber) (h : ReaderProxy) (gaps : List ℕ) (sample far full : Bool) (a : Answer) → sample ≡ isSample n → far ≡ beyond n last
+    → a ≡ answerOf (rowsOf (row 1 (not (gapsOk h gaps)) ∷ row 2 (not sample || far) ∷ row 9 full ∷ []))
+    → a ≡ answerOf (rowsOf (row 1 (not (gapsOk h gaps)) ∷ row 2 (not (isSample n) || beyond n last) ∷ row 9 full ∷ []))
+member-rows n last h gaps sample far full a es ef q =
+    q ∙ ap (λ (t : Bool). answerOf (rowsOf (row 1 (not (gapsOk h gaps)) ∷ row 2 (not t || far) ∷ row 9 full ∷ []))) es
+    ∙ ap (λ (t : Bool). answerOf (rowsOf (row 1 (not (gapsOk h gaps)) ∷ row 2 (not (isSample n) || t) ∷ row 9 full ∷ []))) ef
+
+-- a prefix end, by what the code found of it
+module _ (e last : SequenceNumber) (h : ReaderProxy) (gaps : List ℕ) (below far : Bool) (a : Answer) (eb : below ≡ negative e) (ef : far ≡ beyond e last)
+    (q : a ≡ answerOf (rowsOf (row 1 (not (gapsOk h gaps)) ∷ row 2 (below || far) ∷ []))) where
+  abbrev end-rows : List Row
+  end-rows = row 2 (negative e || beyond e last) ∷ []
+
+  by-end : a ≡ answerOf (rowsOf (row 1 (not (gapsOk h gaps)) ∷ end-rows))
+  by-end =
+      q ∙ ap (λ (t : Bool). answerOf (rowsOf (row 1 (not (gapsOk h gaps)) ∷ row 2 (t || far) ∷ []))) eb
+      ∙ ap (λ (t : Bool). answerOf (rowsOf (row 1 (not (gapsOk h gaps)) ∷ row 2 (negative e || t) ∷ []))) ef
+
+  pub up-to-refused : (a .number ≡ 0 → ⊥) → Gives1 (record { answer = a; proxy = h }) gaps (gapUpToOf e last h gaps)
+  up-to-refused z = gaps-refused h gaps end-rows a by-end (gapUpTo (rankOf e)) z
+
+  pub up-to : a .number ≡ 0 → (end n : ℕ) (u : List ℕ) (r : Changed) → end ≡ rankOf e → r ≡ changed a (countGaps (max (rankOf (h .«gap_prefix_end»)) end) n h)
+      → Gives1 n u (inRoom (fromOn (end + 1)) (h .«gap_count») gaps) → Gives1 r u (gapUpToOf e last h gaps)
+  up-to z end n u r ee er g =
+      up-to-done h gaps end-rows a by-end z (rankOf e) n u r (er ∙ ap (λ (x : ℕ). changed a (countGaps (max (rankOf (h .«gap_prefix_end»)) x) n h)) ee)
+      (subst (λ (x : ℕ). Gives1 n u (inRoom (fromOn (x + 1)) (h .«gap_count») gaps)) ee g)
 
 -- a member, by what the code found of it: whether it takes room
 module _ (n last : SequenceNumber) (h : ReaderProxy) (gaps : List ℕ) (m : ℕ) (needs : Bool) (a : Answer) (em : m ≡ rankOf n) (en : needs ≡ needsRoom m (byGaps h gaps))

@@ -9,10 +9,11 @@ use lib.Dec.{leb, eqb}
 use lib.ListN.{length, take, drop, length-take, length-drop}
 use lib.Seq.{take-all, length-take-le, take-take}
 use borrow.Author.Tests.{not-false, eqb-true, ne-eqb, leb-true, leb-false, eq-eqb}
-use Rattle.numbers.specs.Number.{rankOf}
+use Rattle.numbers.specs.Number.{rankOf, isSample}
 use Rattle.numbers.specs.Refusals.{Row, row, rowsOf, answerOf, done, unless}
 use Rattle.numbers.specs.Promise.{Left1, Left2, Gives1, Gives2}
 use Rattle.numbers.specs.declared.answer.Answer.{Answer}
+use Rattle.numbers.specs.declared.sequence_number.SequenceNumber.{SequenceNumber}
 use Rattle.numbers.specs.declared.answer.Rows.{Rows}
 use Rattle.numbers.specs.Cursor.{nextNumber}
 use Rattle.numbers.specs.declared.cursor.Cursor.{Cursor}
@@ -31,7 +32,7 @@ use Rattle.rtps_reader_proxy.specs.declared.proxy.Changed.{Changed}
 use Rattle.rtps_reader_proxy.specs.declared.unsent.Taken.{Taken}
 use Rattle.rtps_reader_proxy.specs.Reader.{Reader, fresh, notified, markedSent, removedBefore, taken, untaken, withUnsent}
 use Rattle.rtps_reader_proxy.specs.Record.{headOk, unsentOk, seen, headOf, unsentRoom, changed}
-use Rattle.rtps_reader_proxy.specs.Unsent.{newOf, countUnsent, tookOf, byUnsent, unsentBy, takenOf, nextUnsentOf}
+use Rattle.rtps_reader_proxy.specs.Unsent.{newOf, countUnsent, tookOf, byUnsent, unsentBy, notifiedOf, takenOf, nextUnsentOf}
 
 -- a new reader
 module _ (m : ℕ) (a : Answer) (q : a ≡ answerOf (rowsOf (row 13 (not (leb 1 m && leb m 1024)) ∷ []))) where
@@ -122,6 +123,21 @@ module _ (h : ReaderProxy) (unsent : List ℕ) (rows : List Row) (a : Answer) (q
     before-done m n u r e k =
         unsent-done (removedBefore m) (fromOn m) n u r e k (from-only m 1 old (unsent-known .run .rises .from)) refl
         (omega (arith, only-le (leb m) old, old-few))
+
+-- a new sample, by what the code found of its number
+module _ (n : SequenceNumber) (h : ReaderProxy) (unsent : List ℕ) (sample : Bool) (a : Answer) (es : sample ≡ isSample n)
+    (q : a ≡ answerOf (rowsOf (row 1 (not (unsentOk h unsent)) ∷ row 2 (not sample) ∷ []))) where
+  by-sample : a ≡ answerOf (rowsOf (row 1 (not (unsentOk h unsent)) ∷ row 2 (not (isSample n)) ∷ []))
+  by-sample = q ∙ ap (λ (t : Bool). answerOf (rowsOf (row 1 (not (unsentOk h unsent)) ∷ row 2 (not t) ∷ []))) es
+
+  pub notify-refused : (a .number ≡ 0 → ⊥) → Gives1 (record { answer = a; proxy = h }) unsent (notifiedOf n h unsent)
+  notify-refused z = unsent-refused h unsent (row 2 (not (isSample n)) ∷ []) a by-sample (notified (rankOf n)) z
+
+  pub notify-is : a .number ≡ 0 → (m k : ℕ) (u : List ℕ) (r : Changed) → m ≡ rankOf n → r ≡ changed a (countUnsent k h)
+      → Gives1 k u (inRoom (newest (length unsent) m) (h .«unsent_count») unsent) → Gives1 r u (notifiedOf n h unsent)
+  notify-is z m k u r em er g =
+      notify-done h unsent (row 2 (not (isSample n)) ∷ []) a by-sample z (rankOf n) k u r er
+      (subst (λ (x : ℕ). Gives1 k u (inRoom (newest (length unsent) x) (h .«unsent_count») unsent)) em g)
 
 -- many steps under one check
 module _ (h : ReaderProxy) (unsent out : List ℕ) (a : Answer) (q : a ≡ answerOf (rowsOf (row 1 (not (unsentOk h unsent)) ∷ []))) where

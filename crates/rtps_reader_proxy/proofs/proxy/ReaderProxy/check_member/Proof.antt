@@ -1,5 +1,7 @@
 -- `check_member` meets its contract. Assumes nothing.
-use mathlib.Core.Path.{_≡_, refl, sym, ap, _∙_}
+use mathlib.Core.Bool.{Bool, true, false, not, _&&_, _||_}
+use lib.Dec.{leb}
+use Rattle.rtps_reader_proxy.proofs.GapCalls.{member-rows}
 use borrow.Author.Needs.{needs}
 use Rattle.rtps_reader_proxy.proofs.proxy.ReaderProxy.check_member.Statement.{statement}
 use Rattle.rtps_reader_proxy.proofs.proxy.ReaderProxy.check_member.Tie as tie
@@ -14,7 +16,7 @@ check-gaps-requires : tie.Need-check-gaps-requires
 check-gaps-requires c κs = search needs
 
 returns : tie.Need-returns
-returns c = c .check-gaps .ensures ∙ rw (c .before .before .before .is-sample .ensures, c .before .before .is-beyond .ensures)
+returns c = member-rows (c .before .before .before .before .before .args .n) (c .before .before .before .before .before .args .last) (c .before .before .before .before .before .args .self) (c .before .before .before .before .before .args .gaps .now) (c .before .before .before .is-sample .result) (c .before .before .is-beyond .result) (leb 256 (c .before .before .before .before .before .args .self .«gap_count») && c .before .before .before .before .before .args .needs) (c .check-gaps .result) (c .before .before .before .is-sample .ensures) (c .before .before .is-beyond .ensures) (c .check-gaps .ensures)
 
 pub check-member-spec : {M : Type 1} → statement M
 check-member-spec = tie.close (tie.spec is-sample-requires is-beyond-requires check-gaps-requires returns)

@@ -1,12 +1,5 @@
 -- `notify_new_cache_change` meets its contract. Assumes nothing.
-use Prim.Native.Nat.{ℕ, _≤_, _<_, _+_, _-_, max}
-use mathlib.Core.Path.{_≡_, refl, sym, ap, _∙_}
-use mathlib.Core.List.{List, [], _∷_}
-use mathlib.Core.Bool.{Bool, true, false, not, _&&_, _||_}
-use Rattle.numbers.specs.Number.{rankOf, isSample}
-use Rattle.numbers.specs.Refusals.{row, rowsOf, answerOf}
-use Rattle.rtps_reader_proxy.specs.Reader.{notified}
-use Rattle.rtps_reader_proxy.proofs.UnsentCalls.{unsent-refused, notify-done}
+use Rattle.rtps_reader_proxy.proofs.UnsentCalls.{notify-refused, notify-is}
 use borrow.Author.Needs.{needs}
 use Rattle.rtps_reader_proxy.proofs.proxy.ReaderProxy.notify_new_cache_change.Statement.{statement}
 use Rattle.rtps_reader_proxy.proofs.proxy.ReaderProxy.notify_new_cache_change.Tie as tie
@@ -21,7 +14,7 @@ same-length : tie.Need-same-length
 same-length c = search needs
 
 returns : tie.Need-returns
-returns c = unsent-refused (c .before .before .before .before .before .before .args .self) (c .before .before .before .before .before .before .args .unsent .now) (row 2 (not (isSample (c .before .before .before .before .before .before .args .n))) ∷ []) (c .before .before .check-unsent .result) (c .before .before .check-unsent .ensures ∙ rw (c .before .before .before .is-sample .ensures)) (notified (rankOf (c .before .before .before .before .before .before .args .n))) (c .if1 .taken)
+returns c = notify-refused (c .before .before .before .before .before .before .args .n) (c .before .before .before .before .before .before .args .self) (c .before .before .before .before .before .before .args .unsent .now) (c .before .before .before .is-sample .result) (c .before .before .check-unsent .result) (c .before .before .before .is-sample .ensures) (c .before .before .check-unsent .ensures) (c .if1 .taken)
 
 rank-requires : tie.Need-rank-requires
 rank-requires c κs = search needs
@@ -36,7 +29,7 @@ same-length-2 : tie.Need-same-length-2
 same-length-2 c = search needs
 
 returns-2 : tie.Need-returns-2
-returns-2 c = notify-done (c .before .before .before .before .before .before .before .before .before .before .before .before .args .self) (c .before .before .before .before .before .before .before .before .before .before .before .before .args .unsent .now) (row 2 (not (isSample (c .before .before .before .before .before .before .before .before .before .before .before .before .args .n))) ∷ []) (c .before .before .before .before .before .before .before .before .check-unsent .result) (c .before .before .before .before .before .before .before .before .check-unsent .ensures ∙ rw (c .before .before .before .before .before .before .before .before .before .is-sample .ensures)) (c .before .before .before .before .before .before .if1 .left) (rankOf (c .before .before .before .before .before .before .before .before .before .before .before .before .args .n)) (c .before .before .before .insert-newest .result) (c .before .before .before .insert-newest .last .0) (c .with-unsent .result) (c .with-unsent .ensures) (rw (← c .before .before .before .before .rank .ensures .is) (c .before .before .before .insert-newest .ensures))
+returns-2 c = notify-is (c .before .before .before .before .before .before .before .before .before .before .before .before .args .n) (c .before .before .before .before .before .before .before .before .before .before .before .before .args .self) (c .before .before .before .before .before .before .before .before .before .before .before .before .args .unsent .now) (c .before .before .before .before .before .before .before .before .before .is-sample .result) (c .before .before .before .before .before .before .before .before .check-unsent .result) (c .before .before .before .before .before .before .before .before .before .is-sample .ensures) (c .before .before .before .before .before .before .before .before .check-unsent .ensures) (c .before .before .before .before .before .before .if1 .left) (c .before .before .before .before .rank .result) (c .before .before .before .insert-newest .result) (c .before .before .before .insert-newest .last .0) (c .with-unsent .result) (c .before .before .before .before .rank .ensures .is) (c .with-unsent .ensures) (c .before .before .before .insert-newest .ensures)
 
 pub notify-new-cache-change-spec : {M : Type 1} → statement M
 notify-new-cache-change-spec = tie.close (tie.spec is-sample-requires check-unsent-requires same-length returns rank-requires insert-newest-requires with-unsent-requires same-length-2 returns-2)

@@ -1,13 +1,5 @@
 -- `set_pending_gap_up_to` meets its contract. Assumes nothing.
-use Prim.Native.Nat.{ℕ, _≤_, _<_, _+_, _-_, max}
-use mathlib.Core.Path.{_≡_, refl, sym, ap, _∙_}
-use mathlib.Core.List.{List, [], _∷_}
-use mathlib.Core.Bool.{Bool, true, false, not, _&&_, _||_}
-use Rattle.numbers.specs.Number.{rankOf, negative}
-use Rattle.numbers.specs.Refusals.{row, rowsOf, answerOf}
-use Rattle.rtps_reader_proxy.specs.Reader.{gapUpTo}
-use Rattle.rtps_reader_proxy.specs.Gaps.{beyond}
-use Rattle.rtps_reader_proxy.proofs.GapCalls.{gaps-refused, up-to-done}
+use Rattle.rtps_reader_proxy.proofs.GapCalls.{up-to-refused, up-to}
 use borrow.Author.Needs.{needs}
 use Rattle.rtps_reader_proxy.proofs.proxy.ReaderProxy.set_pending_gap_up_to.Statement.{statement}
 use Rattle.rtps_reader_proxy.proofs.proxy.ReaderProxy.set_pending_gap_up_to.Tie as tie
@@ -25,7 +17,7 @@ same-length : tie.Need-same-length
 same-length c = search needs
 
 returns : tie.Need-returns
-returns c = gaps-refused (c .before .before .before .before .before .before .before .args .self) (c .before .before .before .before .before .before .before .args .gaps .now) (row 2 (negative (c .before .before .before .before .before .before .before .args .e) || beyond (c .before .before .before .before .before .before .before .args .e) (c .before .before .before .before .before .before .before .args .last)) ∷ []) (c .before .before .check-gaps .result) (c .before .before .check-gaps .ensures ∙ rw (c .before .before .before .before .before .is-negative .ensures, c .before .before .before .before .is-beyond .ensures)) (gapUpTo (rankOf (c .before .before .before .before .before .before .before .args .e))) (c .if1 .taken)
+returns c = up-to-refused (c .before .before .before .before .before .before .before .args .e) (c .before .before .before .before .before .before .before .args .last) (c .before .before .before .before .before .before .before .args .self) (c .before .before .before .before .before .before .before .args .gaps .now) (c .before .before .before .before .before .is-negative .result) (c .before .before .before .before .is-beyond .result) (c .before .before .check-gaps .result) (c .before .before .before .before .before .is-negative .ensures) (c .before .before .before .before .is-beyond .ensures) (c .before .before .check-gaps .ensures) (c .if1 .taken)
 
 rank-requires : tie.Need-rank-requires
 rank-requires c κs = search needs
@@ -43,7 +35,7 @@ same-length-2 : tie.Need-same-length-2
 same-length-2 c = search needs
 
 returns-2 : tie.Need-returns-2
-returns-2 c = up-to-done (c .before .before .before .before .before .before .before .before .before .before .before .before .before .args .self) (c .before .before .before .before .before .before .before .before .before .before .before .before .before .args .gaps .now) (row 2 (negative (c .before .before .before .before .before .before .before .before .before .before .before .before .before .args .e) || beyond (c .before .before .before .before .before .before .before .before .before .before .before .before .before .args .e) (c .before .before .before .before .before .before .before .before .before .before .before .before .before .args .last)) ∷ []) (c .before .before .before .before .before .before .before .before .check-gaps .result) (c .before .before .before .before .before .before .before .before .check-gaps .ensures ∙ rw (c .before .before .before .before .before .before .before .before .before .before .before .is-negative .ensures, c .before .before .before .before .before .before .before .before .before .before .is-beyond .ensures)) (c .before .before .before .before .before .before .if1 .left) (rankOf (c .before .before .before .before .before .before .before .before .before .before .before .before .before .args .e)) (c .before .before .before .keep-from .result) (c .before .before .before .keep-from .last .0) (c .with-prefix .result) (c .with-prefix .ensures ∙ rw (c .before .before .before .before .before .rank .ensures .is)) (rw (← c .before .before .before .before .before .rank .ensures .is) (c .before .before .before .keep-from .ensures))
+returns-2 c = up-to (c .before .before .before .before .before .before .before .before .before .before .before .before .before .args .e) (c .before .before .before .before .before .before .before .before .before .before .before .before .before .args .last) (c .before .before .before .before .before .before .before .before .before .before .before .before .before .args .self) (c .before .before .before .before .before .before .before .before .before .before .before .before .before .args .gaps .now) (c .before .before .before .before .before .before .before .before .before .before .before .is-negative .result) (c .before .before .before .before .before .before .before .before .before .before .is-beyond .result) (c .before .before .before .before .before .before .before .before .check-gaps .result) (c .before .before .before .before .before .before .before .before .before .before .before .is-negative .ensures) (c .before .before .before .before .before .before .before .before .before .before .is-beyond .ensures) (c .before .before .before .before .before .before .before .before .check-gaps .ensures) (c .before .before .before .before .before .before .if1 .left) (c .before .before .before .before .before .rank .result) (c .before .before .before .keep-from .result) (c .before .before .before .keep-from .last .0) (c .with-prefix .result) (c .before .before .before .before .before .rank .ensures .is) (c .with-prefix .ensures) (c .before .before .before .keep-from .ensures)
 
 pub set-pending-gap-up-to-spec : {M : Type 1} → statement M
 set-pending-gap-up-to-spec = tie.close (tie.spec is-negative-requires is-beyond-requires check-gaps-requires same-length returns rank-requires add-keep-from keep-from-requires with-prefix-requires same-length-2 returns-2)
