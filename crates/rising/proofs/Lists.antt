@@ -32,7 +32,7 @@ dropped-front k s i h =
     List·getD-append (drop k s) _ 0 i q ∙ getD-drop k s i 0 ∙ ap (λ (x : ℕ). getD s x 0) e
 
 -- the numbers that stay are moved, and the rest is cleared
-pub dropped-done : (k st : ℕ) (s m z : List ℕ) → st ≡ length s - min k (length s) → length m ≡ length s → m ≡ upto (dropped k s) s st → z ≡ replicate (length (take (length m - st) (drop st m))) 0
+pub dropped-done : (k st : ℕ) (s m z : List ℕ) → st ≡ length s - k → length m ≡ length s → m ≡ upto (dropped k s) s st → z ≡ replicate (length (take (length m - st) (drop st m))) 0
     → take st m ++ (z ++ drop (length m - st) (drop st m)) ≡ dropped k s
 dropped-done k st s m z a b e f =
     let ld : length (drop k s) ≡ st = rw length-drop (omega arith) in

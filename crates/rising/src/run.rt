@@ -41,15 +41,17 @@ pub fn all_zero(s: &[u64]) -> bool
     let mut b: u64 = 0;
     let mut c: u64 = 0;
     let mut d: u64 = 0;
-    let mut i = 0;
-    while 4 <= s.len() - i {
-        a = a | s[i];
-        b = b | s[i + 1];
-        c = c | s[i + 2];
-        d = d | s[i + 3];
-        i += 4;
+    let fours = s.len() / 4;
+    let mut j = 0;
+    while j < fours {
+        a = a | s[4 * j];
+        b = b | s[4 * j + 1];
+        c = c | s[4 * j + 2];
+        d = d | s[4 * j + 3];
+        j += 1;
     }
     let mut acc = (a | b) | (c | d);
+    let mut i = 4 * j;
     while i < s.len() {
         acc = acc | s[i];
         i += 1;

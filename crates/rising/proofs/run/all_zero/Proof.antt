@@ -1,10 +1,10 @@
 -- `all_zero` meets its contract. Assumes nothing.
-use Prim.Native.Nat.{_≤_, _-_}
+use Prim.Native.Nat.{_≤_, _+_, _-_, _*_, _/_}
 use mathlib.Core.Path.{_≡_, refl}
-use native.Mathlib.Omega.{arith}
-use lib.ListN.{length, drop}
 use mathlib.Core.Bool.{_&&_}
+use native.Mathlib.Omega.{arith}
 use lib.Dec.{eqb}
+use lib.ListN.{length, drop}
 use Rattle.rising.specs.Runs.{zeros}
 use Rattle.rising.proofs.Scans.{four, zeros-four, zeros-more, zeros-end}
 use borrow.Author.Needs.{needs}
@@ -12,69 +12,83 @@ use Rattle.rising.proofs.run.all_zero.Statement.{statement}
 use Rattle.rising.proofs.run.all_zero.Tie as tie
 
 abbrev Inv-loop : tie.InvT-loop
-Inv-loop s a₀ b₀ c₀ d₀ i₀ a b c d i = (i ≤ length s) × (zeros s ≡ (eqb (four a b c d) 0 && zeros (drop i s)))
+Inv-loop s a₀ b₀ c₀ d₀ fours j₀ a b c d j = (fours ≡ length s / 4) × (j ≤ fours) × (zeros s ≡ (eqb (four a b c d) 0 && zeros (drop (4 * j) s)))
 
 abbrev μ-loop : tie.MeasureT-loop
-μ-loop s a₀ b₀ c₀ d₀ i₀ a b c d i = length s - i
+μ-loop s a₀ b₀ c₀ d₀ fours j₀ a b c d j = fours - j
 
 abbrev Inv-loop2 : tie.InvT-loop2
-Inv-loop2 s a b c d i₀ acc₀ i acc = zeros s ≡ (eqb acc 0 && zeros (drop i s))
+Inv-loop2 s a b c d fours j acc₀ i₀ acc i = zeros s ≡ (eqb acc 0 && zeros (drop i s))
 
 abbrev μ-loop2 : tie.MeasureT-loop2
-μ-loop2 s a b c d i₀ acc₀ i acc = length s - i
+μ-loop2 s a b c d fours j acc₀ i₀ acc i = length s - i
 
 loop-holds : tie.Need-loop-holds Inv-loop μ-loop Inv-loop2 μ-loop2
-loop-holds c = (omega arith, refl)
-
-sub-loop : tie.Need-sub-loop Inv-loop μ-loop Inv-loop2 μ-loop2
-sub-loop c = search needs
+loop-holds c = (refl, omega arith, refl)
 
 mul-a : tie.Need-mul-a Inv-loop μ-loop Inv-loop2 μ-loop2
-mul-a c = search needs
+mul-a c = omega arith
+
+mul-a-2 : tie.Need-mul-a-2 Inv-loop μ-loop Inv-loop2 μ-loop2
+mul-a-2 c = omega arith
 
 shared-slice-read-a : tie.Need-shared-slice-read-a Inv-loop μ-loop Inv-loop2 μ-loop2
-shared-slice-read-a c = search needs
-
-add-b : tie.Need-add-b Inv-loop μ-loop Inv-loop2 μ-loop2
-add-b c = search needs
+shared-slice-read-a c = omega arith
 
 mul-b : tie.Need-mul-b Inv-loop μ-loop Inv-loop2 μ-loop2
-mul-b c = search needs
+mul-b c = omega arith
+
+add-b : tie.Need-add-b Inv-loop μ-loop Inv-loop2 μ-loop2
+add-b c = omega arith
+
+mul-b-2 : tie.Need-mul-b-2 Inv-loop μ-loop Inv-loop2 μ-loop2
+mul-b-2 c = omega arith
 
 shared-slice-read-b : tie.Need-shared-slice-read-b Inv-loop μ-loop Inv-loop2 μ-loop2
-shared-slice-read-b c = search needs
-
-add-c : tie.Need-add-c Inv-loop μ-loop Inv-loop2 μ-loop2
-add-c c = search needs
+shared-slice-read-b c = omega arith
 
 mul-c : tie.Need-mul-c Inv-loop μ-loop Inv-loop2 μ-loop2
-mul-c c = search needs
+mul-c c = omega arith
+
+add-c : tie.Need-add-c Inv-loop μ-loop Inv-loop2 μ-loop2
+add-c c = omega arith
+
+mul-c-2 : tie.Need-mul-c-2 Inv-loop μ-loop Inv-loop2 μ-loop2
+mul-c-2 c = omega arith
 
 shared-slice-read-c : tie.Need-shared-slice-read-c Inv-loop μ-loop Inv-loop2 μ-loop2
-shared-slice-read-c c = search needs
-
-add-d : tie.Need-add-d Inv-loop μ-loop Inv-loop2 μ-loop2
-add-d c = search needs
+shared-slice-read-c c = omega arith
 
 mul-d : tie.Need-mul-d Inv-loop μ-loop Inv-loop2 μ-loop2
-mul-d c = search needs
+mul-d c = omega arith
+
+add-d : tie.Need-add-d Inv-loop μ-loop Inv-loop2 μ-loop2
+add-d c = omega arith
+
+mul-d-2 : tie.Need-mul-d-2 Inv-loop μ-loop Inv-loop2 μ-loop2
+mul-d-2 c = omega arith
 
 shared-slice-read-d : tie.Need-shared-slice-read-d Inv-loop μ-loop Inv-loop2 μ-loop2
-shared-slice-read-d c = search needs
+shared-slice-read-d c = omega arith
 
-add-i : tie.Need-add-i Inv-loop μ-loop Inv-loop2 μ-loop2
-add-i c = search needs
+add-j : tie.Need-add-j Inv-loop μ-loop Inv-loop2 μ-loop2
+add-j c = omega arith
 
 loop-less : tie.Need-loop-less Inv-loop μ-loop Inv-loop2 μ-loop2
-loop-less c = search needs
+loop-less c = omega arith
 
 loop-again : tie.Need-loop-again Inv-loop μ-loop Inv-loop2 μ-loop2
 loop-again c =
+    let s = c .before .before .before .before .before .before .args .s .now in
     let l = c .before .before .before .before .before .loop in
-    (omega arith, zeros-four (c .before .before .before .before .before .before .args .s .now) (l .i) (l .a) (l .b) (l .c) (l .d) (omega arith) (l .inv .1))
+    let e : 4 * (l .j + 1) ≡ 4 * l .j + 4 = omega arith in
+    (l .inv .0, omega arith, rw e (zeros-four s (4 * l .j) (l .a) (l .b) (l .c) (l .d) (omega arith) (l .inv .2)))
+
+mul-i : tie.Need-mul-i Inv-loop μ-loop Inv-loop2 μ-loop2
+mul-i c = omega arith
 
 loop2-holds : tie.Need-loop2-holds Inv-loop μ-loop Inv-loop2 μ-loop2
-loop2-holds c = c .before .loop .inv .1
+loop2-holds c = c .before .loop .inv .2
 
 mul-acc : tie.Need-mul-acc Inv-loop μ-loop Inv-loop2 μ-loop2
 mul-acc c = search needs
@@ -82,8 +96,8 @@ mul-acc c = search needs
 shared-slice-read-acc : tie.Need-shared-slice-read-acc Inv-loop μ-loop Inv-loop2 μ-loop2
 shared-slice-read-acc c = search needs
 
-add-i-2 : tie.Need-add-i-2 Inv-loop μ-loop Inv-loop2 μ-loop2
-add-i-2 c = search needs
+add-i : tie.Need-add-i Inv-loop μ-loop Inv-loop2 μ-loop2
+add-i c = search needs
 
 loop2-less : tie.Need-loop2-less Inv-loop μ-loop Inv-loop2 μ-loop2
 loop2-less c = search needs
@@ -103,25 +117,29 @@ all-zero-spec =
     Inv-loop2
     μ-loop2
     loop-holds
-    sub-loop
     mul-a
+    mul-a-2
     shared-slice-read-a
-    add-b
     mul-b
+    add-b
+    mul-b-2
     shared-slice-read-b
-    add-c
     mul-c
+    add-c
+    mul-c-2
     shared-slice-read-c
-    add-d
     mul-d
+    add-d
+    mul-d-2
     shared-slice-read-d
-    add-i
+    add-j
     loop-less
     loop-again
+    mul-i
     loop2-holds
     mul-acc
     shared-slice-read-acc
-    add-i-2
+    add-i
     loop2-less
     loop2-again
     returns)

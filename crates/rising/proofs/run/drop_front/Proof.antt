@@ -1,5 +1,5 @@
 -- `drop_front` meets its contract. Assumes nothing.
-use Prim.Native.Nat.{ℕ, _≤_, _+_, _-_, min}
+use Prim.Native.Nat.{ℕ, _≤_, _+_, _-_}
 use mathlib.Core.Path.{_≡_, refl, sym, ap, _∙_}
 use mathlib.Core.List.{List}
 use native.Mathlib.Omega.{arith}
@@ -11,7 +11,7 @@ use Rattle.rising.proofs.run.drop_front.Statement.{statement}
 use Rattle.rising.proofs.run.drop_front.Tie as tie
 
 abbrev Inv-loop : tie.InvT-loop
-Inv-loop s₀ k stay i₀ s i = (i ≤ stay) × (stay ≡ length s₀ - min k (length s₀)) × (length s ≡ length s₀) × (s ≡ upto (dropped k s₀) s₀ i)
+Inv-loop s₀ k stay i₀ s i = (i ≤ stay) × (stay ≡ length s₀ - k) × (length s ≡ length s₀) × (s ≡ upto (dropped k s₀) s₀ i)
 
 abbrev μ-loop : tie.MeasureT-loop
 μ-loop s₀ k stay i₀ s i = stay - i
@@ -86,8 +86,8 @@ returns-2 c =
     let s₀ = c .before .before .before .before .before .before .before .before .before .args .s .now in
     let k = c .before .before .before .before .before .before .before .before .before .args .k in
     let l = c .before .before .before .before .before .loop in
-    let e : l .i ≡ length s₀ - min k (length s₀) = omega arith in
-    let st : length s₀ - c .before .before .before .before .before .before .smaller .result ≡ length s₀ - min k (length s₀) = ap (λ (x : ℕ). length s₀ - x) (c .before .before .before .before .before .before .smaller .ensures) in
+    let e : l .i ≡ length s₀ - k = omega arith in
+    let st : length s₀ - c .before .before .before .before .before .before .smaller .result ≡ length s₀ - k = omega (arith, c .before .before .before .before .before .before .smaller .ensures) in
     dropped-done k (length s₀ - c .before .before .before .before .before .before .smaller .result) s₀ (l .s) (c .before .before .clear .last .0) st (l .inv .2) (l .inv .3 ∙ ap (upto (dropped k s₀) s₀) (e ∙ sym st)) (c .before .before .clear .ensures)
 
 pub drop-front-spec : {M : Type 1} → statement M

@@ -2,51 +2,50 @@
 use Prim.Native.Nat.{_+_}
 use native.Mathlib.Omega.{arith}
 use Rattle.rising.proofs.Scans.{place-hit, place-miss}
-use borrow.Author.Needs.{needs}
 use Rattle.rising.proofs.run.place_in_four.Statement.{statement}
 use Rattle.rising.proofs.run.place_in_four.Tie as tie
 
 mul-if1 : tie.Need-mul-if1
-mul-if1 c = search needs
+mul-if1 c = omega arith
 
 shared-slice-read-if1 : tie.Need-shared-slice-read-if1
-shared-slice-read-if1 c = search needs
+shared-slice-read-if1 c = omega arith
 
 returns : tie.Need-returns
 returns c = omega (arith, place-hit (c .before .before .args .s .now) (c .before .before .args .n) (c .before .before .args .i) (omega arith) (c .if1 .taken))
 
 add-if2 : tie.Need-add-if2
-add-if2 c = search needs
+add-if2 c = omega arith
 
 mul-if2 : tie.Need-mul-if2
-mul-if2 c = search needs
+mul-if2 c = omega arith
 
 shared-slice-read-if2 : tie.Need-shared-slice-read-if2
-shared-slice-read-if2 c = search needs
+shared-slice-read-if2 c = omega arith
 
 returns-2 : tie.Need-returns-2
 returns-2 c = omega (arith, place-miss (c .before .before .before .before .args .s .now) (c .before .before .before .before .args .n) (c .before .before .before .before .args .i) (c .before .before .before .before .args .i + 1) (omega arith) (c .before .before .if1 .left) (omega arith), place-hit (c .before .before .before .before .args .s .now) (c .before .before .before .before .args .n) ((c .before .before .before .before .args .i + 1)) (omega arith) (c .if2 .taken))
 
 add-if3 : tie.Need-add-if3
-add-if3 c = search needs
+add-if3 c = omega arith
 
 mul-if3 : tie.Need-mul-if3
-mul-if3 c = search needs
+mul-if3 c = omega arith
 
 shared-slice-read-if3 : tie.Need-shared-slice-read-if3
-shared-slice-read-if3 c = search needs
+shared-slice-read-if3 c = omega arith
 
 returns-3 : tie.Need-returns-3
 returns-3 c = omega (arith, place-miss (c .before .before .before .before .before .before .args .s .now) (c .before .before .before .before .before .before .args .n) (c .before .before .before .before .before .before .args .i) (c .before .before .before .before .before .before .args .i + 1) (omega arith) (c .before .before .before .before .if1 .left) (omega arith), place-miss (c .before .before .before .before .before .before .args .s .now) (c .before .before .before .before .before .before .args .n) ((c .before .before .before .before .before .before .args .i + 1)) (c .before .before .before .before .before .before .args .i + 2) (omega arith) (c .before .before .if2 .left) (omega arith), place-hit (c .before .before .before .before .before .before .args .s .now) (c .before .before .before .before .before .before .args .n) ((c .before .before .before .before .before .before .args .i + 2)) (omega arith) (c .if3 .taken))
 
 add-if4 : tie.Need-add-if4
-add-if4 c = search needs
+add-if4 c = omega arith
 
 mul-if4 : tie.Need-mul-if4
-mul-if4 c = search needs
+mul-if4 c = omega arith
 
 shared-slice-read-if4 : tie.Need-shared-slice-read-if4
-shared-slice-read-if4 c = search needs
+shared-slice-read-if4 c = omega arith
 
 returns-4 : tie.Need-returns-4
 returns-4 c = omega (arith, place-miss (c .before .before .before .before .before .before .before .before .args .s .now) (c .before .before .before .before .before .before .before .before .args .n) (c .before .before .before .before .before .before .before .before .args .i) (c .before .before .before .before .before .before .before .before .args .i + 1) (omega arith) (c .before .before .before .before .before .before .if1 .left) (omega arith), place-miss (c .before .before .before .before .before .before .before .before .args .s .now) (c .before .before .before .before .before .before .before .before .args .n) ((c .before .before .before .before .before .before .before .before .args .i + 1)) (c .before .before .before .before .before .before .before .before .args .i + 2) (omega arith) (c .before .before .before .before .if2 .left) (omega arith), place-miss (c .before .before .before .before .before .before .before .before .args .s .now) (c .before .before .before .before .before .before .before .before .args .n) ((c .before .before .before .before .before .before .before .before .args .i + 2)) (c .before .before .before .before .before .before .before .before .args .i + 3) (omega arith) (c .before .before .if3 .left) (omega arith), place-hit (c .before .before .before .before .before .before .before .before .args .s .now) (c .before .before .before .before .before .before .before .before .args .n) ((c .before .before .before .before .before .before .before .before .args .i + 3)) (omega arith) (c .if4 .taken))
