@@ -1,8 +1,8 @@
+-- The laws of `rising`.
 pub mod Lists
 pub mod Scans
 pub mod Rooms
 pub mod Inserts
-pub mod Merging
 pub mod Meaning
 pub mod Changes
 pub mod Unique

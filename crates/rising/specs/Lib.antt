@@ -1,4 +1,2 @@
 -- The definitions of `rising`.
 pub mod Runs
-pub mod Turn
-pub mod Set

@@ -1,0 +1,4 @@
+-- The laws of `rising_set`.
+pub mod Merging
+pub mod SetCalls
+pub mod Unique

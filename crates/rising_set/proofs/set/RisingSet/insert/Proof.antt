@@ -1,0 +1,63 @@
+-- `insert` meets its contract. Assumes nothing.
+use Prim.Native.Nat.{ℕ, _≤_, _<_, _+_, _-_}
+use mathlib.Core.Path.{_≡_, refl, sym, ap, _∙_}
+use mathlib.Core.List.{List, [], _∷_}
+use mathlib.Core.Bool.{Bool, not, false}
+use native.Mathlib.Omega.{arith}
+use lib.Dec.{leb}
+use lib.ListN.{length, take}
+use lib.Seq.{length-take-le}
+use Rattle.numbers.specs.Number.{rankOf, isSample}
+use Rattle.numbers.specs.Refusals.{row, rowsOf, answerOf}
+use Rattle.numbers.proofs.Refused.{is-refused, is-done, done-is, clear}
+use Rattle.sets.specs.Sets.{has, without, only, insert, between, union, smallest}
+use Rattle.rising_set.specs.Set.{checked, isFull, membersOf}
+use Rattle.rising_set.proofs.SetCalls.{change-refused, change-done, remove-done, from-done, between-done, insert-done, run-of, join-count, join-room, join-left, join-refused, join-done, first-run, second-run, contained-refused, contained-done}
+use borrow.Author.Needs.{needs}
+use Rattle.rising_set.proofs.set.RisingSet.insert.Statement.{statement}
+use Rattle.rising_set.proofs.set.RisingSet.insert.Tie as tie
+
+rank-requires : tie.Need-rank-requires
+rank-requires c κs = search needs
+
+holds-requires : tie.Need-holds-requires
+holds-requires c κs = search needs
+
+is-sample-requires : tie.Need-is-sample-requires
+is-sample-requires c κs = search needs
+
+check-requires : tie.Need-check-requires
+check-requires c κs = search needs
+
+same-length : tie.Need-same-length
+same-length c = search needs
+
+returns : tie.Need-returns
+returns c = change-refused (c .before .before .before .before .before .before .before .before .before .before .args .self) (c .before .before .before .before .before .before .before .before .before .before .args .s .now) (row 2 (not (isSample (c .before .before .before .before .before .before .before .before .before .before .args .n))) ∷ row 9 (isFull (rankOf (c .before .before .before .before .before .before .before .before .before .before .args .n)) (c .before .before .before .before .before .before .before .before .before .before .args .self) (c .before .before .before .before .before .before .before .before .before .before .args .s .now)) ∷ []) (c .before .before .check .result) (c .before .before .check .ensures ∙ rw (c .before .before .before .is-sample .ensures, c .before .before .before .before .before .before .holds .ensures, c .before .before .before .before .before .before .before .rank .ensures .is)) (insert (rankOf (c .before .before .before .before .before .before .before .before .before .before .args .n))) (c .if1 .taken)
+
+rank-requires-2 : tie.Need-rank-requires-2
+rank-requires-2 c κs = search needs
+
+insert-requires : tie.Need-insert-requires
+insert-requires c κs = search needs
+
+same-length-2 : tie.Need-same-length-2
+same-length-2 c = search needs
+
+returns-2 : tie.Need-returns-2
+returns-2 c = insert-done (c .before .before .before .before .before .before .before .before .before .before .before .before .before .before .before .args .self) (c .before .before .before .before .before .before .before .before .before .before .before .before .before .before .before .args .s .now) (row 2 (not (isSample (c .before .before .before .before .before .before .before .before .before .before .before .before .before .before .before .args .n))) ∷ row 9 (isFull (rankOf (c .before .before .before .before .before .before .before .before .before .before .before .before .before .before .before .args .n)) (c .before .before .before .before .before .before .before .before .before .before .before .before .before .before .before .args .self) (c .before .before .before .before .before .before .before .before .before .before .before .before .before .before .before .args .s .now)) ∷ []) (c .before .before .before .before .before .before .before .check .result) (c .before .before .before .before .before .before .before .check .ensures ∙ rw (c .before .before .before .before .before .before .before .before .is-sample .ensures, c .before .before .before .before .before .before .before .before .before .before .before .holds .ensures, c .before .before .before .before .before .before .before .before .before .before .before .before .rank .ensures .is)) (c .before .before .before .before .before .if1 .left) (rankOf (c .before .before .before .before .before .before .before .before .before .before .before .before .before .before .before .args .n)) (c .before .before .insert .result) (c .before .before .insert .last .0) (clear (rowsOf (checked (c .before .before .before .before .before .before .before .before .before .before .before .before .before .before .before .args .self) (c .before .before .before .before .before .before .before .before .before .before .before .before .before .before .before .args .s .now) (row 2 (not (isSample (c .before .before .before .before .before .before .before .before .before .before .before .before .before .before .before .args .n))) ∷ row 9 (isFull (rankOf (c .before .before .before .before .before .before .before .before .before .before .before .before .before .before .before .args .n)) (c .before .before .before .before .before .before .before .before .before .before .before .before .before .before .before .args .self) (c .before .before .before .before .before .before .before .before .before .before .before .before .before .before .before .args .s .now)) ∷ []))) (c .before .before .before .before .before .before .before .check .result) (c .before .before .before .before .before .before .before .check .ensures ∙ rw (c .before .before .before .before .before .before .before .before .is-sample .ensures, c .before .before .before .before .before .before .before .before .before .before .before .holds .ensures, c .before .before .before .before .before .before .before .before .before .before .before .before .rank .ensures .is)) (c .before .before .before .before .before .if1 .left) .gaps-full) (rw (← c .before .before .before .rank2 .ensures .is) (c .before .before .insert .ensures))
+
+pub insert-spec : {M : Type 1} → statement M
+insert-spec =
+    tie.close
+    (tie.spec
+    rank-requires
+    holds-requires
+    is-sample-requires
+    check-requires
+    same-length
+    returns
+    rank-requires-2
+    insert-requires
+    same-length-2
+    returns-2)

@@ -1,0 +1,63 @@
+-- `keep_between` meets its contract. Assumes nothing.
+use Prim.Native.Nat.{ℕ, _≤_, _<_, _+_, _-_}
+use mathlib.Core.Path.{_≡_, refl, sym, ap, _∙_}
+use mathlib.Core.List.{List, [], _∷_}
+use mathlib.Core.Bool.{Bool, not, false}
+use native.Mathlib.Omega.{arith}
+use lib.Dec.{leb}
+use lib.ListN.{length, take}
+use lib.Seq.{length-take-le}
+use Rattle.numbers.specs.Number.{rankOf, isSample}
+use Rattle.numbers.specs.Refusals.{row, rowsOf, answerOf}
+use Rattle.numbers.proofs.Refused.{is-refused, is-done, done-is, clear}
+use Rattle.sets.specs.Sets.{has, without, only, insert, between, union, smallest}
+use Rattle.rising_set.specs.Set.{checked, isFull, membersOf}
+use Rattle.rising_set.proofs.SetCalls.{change-refused, change-done, remove-done, from-done, between-done, insert-done, run-of, join-count, join-room, join-left, join-refused, join-done, first-run, second-run, contained-refused, contained-done}
+use borrow.Author.Needs.{needs}
+use Rattle.rising_set.proofs.set.RisingSet.keep_between.Statement.{statement}
+use Rattle.rising_set.proofs.set.RisingSet.keep_between.Tie as tie
+
+check-requires : tie.Need-check-requires
+check-requires c κs = search needs
+
+same-length : tie.Need-same-length
+same-length c = search needs
+
+returns : tie.Need-returns
+returns c = change-refused (c .before .before .before .before .before .args .self) (c .before .before .before .before .before .args .s .now) (row 2 false ∷ row 9 false ∷ []) (c .before .before .check .result) (c .before .before .check .ensures) (between (rankOf (c .before .before .before .before .before .args .b)) (rankOf (c .before .before .before .before .before .args .e))) (c .if1 .taken)
+
+rank-requires : tie.Need-rank-requires
+rank-requires c κs = search needs
+
+keep-from-requires : tie.Need-keep-from-requires
+keep-from-requires c κs = search needs
+
+rank-requires-2 : tie.Need-rank-requires-2
+rank-requires-2 c κs = search needs
+
+add-keep-before : tie.Need-add-keep-before
+add-keep-before c = search needs
+
+keep-before-requires : tie.Need-keep-before-requires
+keep-before-requires c κs = search needs
+
+same-length-2 : tie.Need-same-length-2
+same-length-2 c = search needs
+
+returns-2 : tie.Need-returns-2
+returns-2 c = between-done (c .before .before .before .before .before .before .before .before .before .before .before .before .before .before .before .args .self) (c .before .before .before .before .before .before .before .before .before .before .before .before .before .before .before .args .s .now) (row 2 false ∷ row 9 false ∷ []) (c .before .before .before .before .before .before .before .before .before .before .before .before .check .result) (c .before .before .before .before .before .before .before .before .before .before .before .before .check .ensures) (c .before .before .before .before .before .before .before .before .before .before .if1 .left) (rankOf (c .before .before .before .before .before .before .before .before .before .before .before .before .before .before .before .args .b)) (rankOf (c .before .before .before .before .before .before .before .before .before .before .before .before .before .before .before .args .e)) (c .before .before .before .before .before .before .before .keep-from .result) (c .before .before .keep-before .result) (c .before .before .before .before .before .before .before .keep-from .last .0) (c .before .before .keep-before .last .0) (rw (← c .before .before .before .before .before .before .before .before .rank .ensures .is) (c .before .before .before .before .before .before .before .keep-from .ensures)) (rw (← c .before .before .before .rank2 .ensures .is) (c .before .before .keep-before .ensures))
+
+pub keep-between-spec : {M : Type 1} → statement M
+keep-between-spec =
+    tie.close
+    (tie.spec
+    check-requires
+    same-length
+    returns
+    rank-requires
+    keep-from-requires
+    rank-requires-2
+    add-keep-before
+    keep-before-requires
+    same-length-2
+    returns-2)

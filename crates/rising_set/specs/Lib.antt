@@ -1,0 +1,3 @@
+-- The definitions of `rising_set`.
+pub mod Turn
+pub mod Set
