@@ -28,15 +28,16 @@ fn caps() -> Vec<usize> {
     oracle::fixed_cap().map_or(vec![1, 2, 3], |cap| vec![cap])
 }
 
-/// The length of the sequences. RUNS_SHORT, for an emulator, makes it one less.
+/// The length of the sequences.
 fn length() -> u32 {
-    match std::env::var_os("RUNS_SHORT") {
-        None => 5,
-        Some(_) => 4,
+    if runs::short() {
+        4
+    } else {
+        5
     }
 }
 
-/// That so many calls were compared; a call less leaves a tenth of them, or so.
+/// That so many calls were compared; sequences of four have a tenth, or so.
 fn enough(compared: u64, least: u64) {
     println!("{} calls", compared);
     assert!(compared > if length() == 5 { least } else { least / 20 });
@@ -146,7 +147,8 @@ fn writers_of_every_kind<S: Subjects + Default>() {
                 slots: 3,
                 slot_bytes: 2,
             };
-            compared += exhaustive::writers(&S::default(), kind, limits, &alphabet, length()).unwrap();
+            compared +=
+                exhaustive::writers(&S::default(), kind, limits, &alphabet, length()).unwrap();
         }
     }
     enough(compared, 1_000_000);
