@@ -1,5 +1,5 @@
 /* A plugin of the emulator's, for host/speed where there is no callgrind: the instructions executed from each call of the function `measured`
- * to its return, one line of the log for each. Its log has to be on (QEMU_LOG=plugin): only then does the emulator know the names of functions.
+ * to its return, one line of the log for each. Its log has to be on (-d plugin): only then does the emulator know the names of functions.
  * What it uses of qemu-plugin.h is declared here, so that it needs no header. */
 typedef unsigned long id;
 struct qemu_plugin_tb;
