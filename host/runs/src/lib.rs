@@ -25,3 +25,8 @@ pub mod sight;
 pub mod subject;
 pub mod trace_lines;
 pub mod writer_faults;
+
+/// Whether the longest runs are to be shorter, as for an emulator: RUNS_SHORT.
+pub fn short() -> bool {
+    std::env::var_os("RUNS_SHORT").is_some()
+}

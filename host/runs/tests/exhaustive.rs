@@ -28,6 +28,21 @@ fn caps() -> Vec<usize> {
     oracle::fixed_cap().map_or(vec![1, 2, 3], |cap| vec![cap])
 }
 
+/// The length of the sequences.
+fn length() -> u32 {
+    if runs::short() {
+        4
+    } else {
+        5
+    }
+}
+
+/// That so many calls were compared; sequences of four have a tenth, or so.
+fn enough(compared: u64, least: u64) {
+    println!("{} calls", compared);
+    assert!(compared > if length() == 5 { least } else { least / 20 });
+}
+
 fn acknowledgements_and_new_numbers<S: Subjects + Default>() {
     let alphabet = [
         ack(0, &[], 2),
@@ -43,9 +58,8 @@ fn acknowledgements_and_new_numbers<S: Subjects + Default>() {
         ReaderCall::RemoveBefore { number: 2 },
     ];
     for cap in caps() {
-        let compared = exhaustive::readers(&S::default(), cap, &alphabet, 5).unwrap();
-        println!("cap {}: {} calls", cap, compared);
-        assert!(compared > 100_000);
+        let compared = exhaustive::readers(&S::default(), cap, &alphabet, length()).unwrap();
+        enough(compared, 100_000);
     }
 }
 
@@ -64,9 +78,8 @@ fn gaps<S: Subjects + Default>() {
         ack(5, &[], 4),
     ];
     let cap = caps()[0];
-    let compared = exhaustive::readers(&S::default(), cap, &alphabet, 5).unwrap();
-    println!("{} calls", compared);
-    assert!(compared > 100_000);
+    let compared = exhaustive::readers(&S::default(), cap, &alphabet, length()).unwrap();
+    enough(compared, 100_000);
 }
 
 fn fragments<S: Subjects + Default>() {
@@ -82,9 +95,8 @@ fn fragments<S: Subjects + Default>() {
         ack(2, &[], 4),
     ];
     let cap = caps()[0];
-    let compared = exhaustive::readers(&S::default(), cap, &alphabet, 5).unwrap();
-    println!("{} calls", compared);
-    assert!(compared > 50_000);
+    let compared = exhaustive::readers(&S::default(), cap, &alphabet, length()).unwrap();
+    enough(compared, 50_000);
 }
 
 fn admit(opted_in: bool, way: Way) -> WriterCall {
@@ -135,11 +147,11 @@ fn writers_of_every_kind<S: Subjects + Default>() {
                 slots: 3,
                 slot_bytes: 2,
             };
-            compared += exhaustive::writers(&S::default(), kind, limits, &alphabet, 5).unwrap();
+            compared +=
+                exhaustive::writers(&S::default(), kind, limits, &alphabet, length()).unwrap();
         }
     }
-    println!("{} calls", compared);
-    assert!(compared > 1_000_000);
+    enough(compared, 1_000_000);
 }
 
 macro_rules! with {

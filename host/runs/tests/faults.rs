@@ -9,7 +9,13 @@ use runs::{
     subject::Subjects,
 };
 
-const CALLS: u64 = 40_000;
+fn calls() -> u64 {
+    if runs::short() {
+        10_000
+    } else {
+        40_000
+    }
+}
 
 /// A fixed cap may be too large or too small to show a fault at the cap.
 fn fixed_cap() -> bool {
@@ -17,16 +23,16 @@ fn fixed_cap() -> bool {
 }
 
 fn check<S: Subjects + Clone>(name: String, faulty: &Faulty<S>, by: CaughtBy) {
-    let beside = beside::run(faulty, 5, CALLS).is_err();
-    let against = against::run(faulty, 5, CALLS).is_err();
+    let beside = beside::run(faulty, 5, calls()).is_err();
+    let against = against::run(faulty, 5, calls()).is_err();
     assert_eq!(beside, by == CaughtBy::Crate, "{} beside the crate", name);
     assert!(against, "{} against the model", name);
 }
 
 fn no_fault_is_not_caught<S: Subjects + Clone + Default>() {
     let sound = Faulty::<S>::default();
-    assert!(beside::run(&sound, 5, CALLS).is_ok());
-    assert!(against::run(&sound, 5, CALLS).is_ok());
+    assert!(beside::run(&sound, 5, calls()).is_ok());
+    assert!(against::run(&sound, 5, calls()).is_ok());
 }
 
 fn reader_faults<S: Subjects + Clone + Default>() {
