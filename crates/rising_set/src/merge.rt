@@ -1,5 +1,7 @@
 // Two runs made one.
 ghost use mathlib.Core.Path.{_≡_};
+ghost use Prim.Native.Nat.{_<_};
+ghost use lib.ListN.{length};
 ghost use Rattle.numbers.specs.Promise.{Gives1};
 ghost use Rattle.rising.specs.Runs.{mergedInto};
 ghost use Rattle.rising_set.specs.Turn.{Turned};
@@ -12,39 +14,47 @@ struct Turn {
     j: usize,
 }
 
+// Where both runs have more.
+fn smaller_turn(s: &[u64], t: &[u64], i: usize, j: usize) -> Turn
+    requires { ⌜ (i < length (now s)) × (j < length (now t)) ⌝ }
+    ensures { λ r. ⌜ Turned (now (s .entry)) (now (t .entry)) i j (r .more) (r .number) (r .i) (r .j) ⌝ }
+{
+    let x = s[i];
+    let y = t[j];
+    if y < x {
+        return Turn {
+            more: true,
+            number: y,
+            i: i,
+            j: j + 1,
+        };
+    }
+    if y == x {
+        return Turn {
+            more: true,
+            number: x,
+            i: i + 1,
+            j: j + 1,
+        };
+    }
+    Turn {
+        more: true,
+        number: x,
+        i: i + 1,
+        j: j,
+    }
+}
+
 fn next_turn(s: &[u64], t: &[u64], i: usize, j: usize) -> Turn
     ensures { λ r. ⌜ Turned (now (s .entry)) (now (t .entry)) i j (r .more) (r .number) (r .i) (r .j) ⌝ }
 {
     if i < s.len() {
-        let x = s[i];
         if j < t.len() {
-            let y = t[j];
-            if y < x {
-                return Turn {
-                    more: true,
-                    number: y,
-                    i: i,
-                    j: j + 1,
-                };
-            }
-            if y == x {
-                return Turn {
-                    more: true,
-                    number: x,
-                    i: i + 1,
-                    j: j + 1,
-                };
-            }
-            return Turn {
-                more: true,
-                number: x,
-                i: i + 1,
-                j: j,
-            };
+            return smaller_turn(s, t, i, j);
         }
         return Turn {
             more: true,
-            number: x,
+            number: s[i],
             i: i + 1,
             j: j,
         };
