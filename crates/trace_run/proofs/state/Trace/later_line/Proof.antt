@@ -119,7 +119,7 @@ same-length-4 : tie.Need-same-length-4
 same-length-4 c = search needs
 
 returns-3 : tie.Need-returns-3
-returns-3 c = gives-as _ _ (ap (λ (x : Command). laterBy x (c .before .before .before .before .before .before .before .before .before .before .before .before .before .before .before .before .args .numbers .now) (c .before .before .before .before .before .before .before .before .before .before .before .before .before .before .before .before .args .self) (c .before .before .before .before .before .before .before .before .before .before .before .before .before .before .before .before .args .store .now) (c .before .before .before .before .before .before .before .before .before .before .before .before .before .before .before .before .args .large .now) (c .before .before .before .before .before .before .before .before .before .before .before .before .before .before .before .before .args .small .now)) (sym (c .before .before .before .before .before .before .before .before .before .before .c3 .given .1))) (ack-arm (c .before .before .before .before .before .before .before .before .before .before .c3 .given .0 .0) (c .before .before .before .before .before .before .before .before .before .before .c3 .given .0 .1 .0) (c .before .before .before .before .before .before .before .before .before .before .c3 .given .0 .1 .1 .0) (c .before .before .before .before .before .before .before .before .smaller .result) (c .before .before .before .before .before .before .before .before .before .before .before .before .before .before .before .before .args .numbers .now) (c .before .before .before .before .before .before .before .before .before .before .before .before .before .before .before .before .args .self) (c .before .before .before .before .before .before .before .before .before .before .before .before .before .before .before .before .args .store .now) (c .before .before .before .before .before .before .before .before .before .before .before .before .before .before .before .before .args .large .now) (c .before .before .before .before .before .before .before .before .before .before .before .before .before .before .before .before .args .small .now) (c .before .before .before .before .before .before .before .before .smaller .ensures .0) (c .before .before .before .before .ack-step .ensures))
+returns-3 c = gives-as _ _ (ap (λ (x : Command). laterBy x (c .before .before .before .before .before .before .before .before .before .before .before .before .before .before .before .before .args .numbers .now) (c .before .before .before .before .before .before .before .before .before .before .before .before .before .before .before .before .args .self) (c .before .before .before .before .before .before .before .before .before .before .before .before .before .before .before .before .args .store .now) (c .before .before .before .before .before .before .before .before .before .before .before .before .before .before .before .before .args .large .now) (c .before .before .before .before .before .before .before .before .before .before .before .before .before .before .before .before .args .small .now)) (sym (c .before .before .before .before .before .before .before .before .before .before .c3 .given .1))) (ack-arm (c .before .before .before .before .before .before .before .before .before .before .c3 .given .0 .0) (c .before .before .before .before .before .before .before .before .before .before .c3 .given .0 .1 .0) (c .before .before .before .before .before .before .before .before .before .before .c3 .given .0 .1 .1 .0) (c .before .before .before .before .before .before .before .before .smaller .result) (c .before .before .before .before .before .before .before .before .before .before .before .before .before .before .before .before .args .numbers .now) (c .before .before .before .before .before .before .before .before .before .before .before .before .before .before .before .before .args .self) (c .before .before .before .before .before .before .before .before .before .before .before .before .before .before .before .before .args .store .now) (c .before .before .before .before .before .before .before .before .before .before .before .before .before .before .before .before .args .large .now) (c .before .before .before .before .before .before .before .before .before .before .before .before .before .before .before .before .args .small .now) (c .before .before .before .before .before .before .before .before .smaller .ensures) (c .before .before .before .before .ack-step .ensures))
 
 same-length-5 : tie.Need-same-length-5
 same-length-5 c = search needs
@@ -134,7 +134,7 @@ same-length-7 : tie.Need-same-length-7
 same-length-7 c = search needs
 
 returns-5 : tie.Need-returns-5
-returns-5 c = gives-as _ _ (ap (λ (x : Command). laterBy x (c .before .before .before .before .before .before .before .before .before .before .before .before .before .before .before .before .args .numbers .now) (c .before .before .before .before .before .before .before .before .before .before .before .before .before .before .before .before .args .self) (c .before .before .before .before .before .before .before .before .before .before .before .before .before .before .before .before .args .store .now) (c .before .before .before .before .before .before .before .before .before .before .before .before .before .before .before .before .args .large .now) (c .before .before .before .before .before .before .before .before .before .before .before .before .before .before .before .before .args .small .now)) (sym (c .before .before .before .before .before .before .before .before .before .before .c5 .given .1))) (frag-arm (c .before .before .before .before .before .before .before .before .before .before .c5 .given .0 .0) (c .before .before .before .before .before .before .before .before .before .before .c5 .given .0 .1 .0) (c .before .before .before .before .before .before .before .before .before .before .c5 .given .0 .1 .1 .0) (c .before .before .before .before .before .before .before .before .smaller2 .result) (c .before .before .before .before .before .before .before .before .before .before .before .before .before .before .before .before .args .numbers .now) (c .before .before .before .before .before .before .before .before .before .before .before .before .before .before .before .before .args .self) (c .before .before .before .before .before .before .before .before .before .before .before .before .before .before .before .before .args .store .now) (c .before .before .before .before .before .before .before .before .before .before .before .before .before .before .before .before .args .large .now) (c .before .before .before .before .before .before .before .before .before .before .before .before .before .before .before .before .args .small .now) (c .before .before .before .before .before .before .before .before .smaller2 .ensures .0) (c .before .before .before .before .frag-step .ensures))
+returns-5 c = gives-as _ _ (ap (λ (x : Command). laterBy x (c .before .before .before .before .before .before .before .before .before .before .before .before .before .before .before .before .args .numbers .now) (c .before .before .before .before .before .before .before .before .before .before .before .before .before .before .before .before .args .self) (c .before .before .before .before .before .before .before .before .before .before .before .before .before .before .before .before .args .store .now) (c .before .before .before .before .before .before .before .before .before .before .before .before .before .before .before .before .args .large .now) (c .before .before .before .before .before .before .before .before .before .before .before .before .before .before .before .before .args .small .now)) (sym (c .before .before .before .before .before .before .before .before .before .before .c5 .given .1))) (frag-arm (c .before .before .before .before .before .before .before .before .before .before .c5 .given .0 .0) (c .before .before .before .before .before .before .before .before .before .before .c5 .given .0 .1 .0) (c .before .before .before .before .before .before .before .before .before .before .c5 .given .0 .1 .1 .0) (c .before .before .before .before .before .before .before .before .smaller2 .result) (c .before .before .before .before .before .before .before .before .before .before .before .before .before .before .before .before .args .numbers .now) (c .before .before .before .before .before .before .before .before .before .before .before .before .before .before .before .before .args .self) (c .before .before .before .before .before .before .before .before .before .before .before .before .before .before .before .before .args .store .now) (c .before .before .before .before .before .before .before .before .before .before .before .before .before .before .before .before .args .large .now) (c .before .before .before .before .before .before .before .before .before .before .before .before .before .before .before .before .args .small .now) (c .before .before .before .before .before .before .before .before .smaller2 .ensures) (c .before .before .before .before .frag-step .ensures))
 
 returns-6 : tie.Need-returns-6
 returns-6 c = gives-as _ _ (ap (λ (x : Command). laterBy x (c .before .before .before .before .before .before .before .before .args .numbers .now) (c .before .before .before .before .before .before .before .before .args .self) (c .before .before .before .before .before .before .before .before .args .store .now) (c .before .before .before .before .before .before .before .before .args .large .now) (c .before .before .before .before .before .before .before .before .args .small .now)) (sym (c .before .before .c6 .given .1))) (record { result = c .evict-step .ensures; first = refl; second = refl; third = refl })

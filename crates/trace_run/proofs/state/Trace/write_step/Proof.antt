@@ -57,7 +57,7 @@ same-length-2 : tie.Need-same-length-2
 same-length-2 c = search needs
 
 returns-3 : tie.Need-returns-3
-returns-3 c = write-line (c .before .before .before .before .before .before .before .before .before .before .before .before .before .before .args .len) (c .before .before .before .before .before .before .before .before .before .before .before .before .before .before .args .self) (c .before .before .before .before .before .before .before .before .before .before .before .before .before .before .args .store .now) (c .before .before .before .before .before .before .before .before .before .before .before .before .before .before .args .large .now) (c .before .before .before .before .before .before .before .before .before .before .before .if1 .left) (c .before .before .before .before .before .before .before .before .before .before .if2 .left) (c .before .before .before .before .before .before .before .before .smaller .result) (c .before .before .before .before .before .before .before .before .smaller .ensures .0) (c .before .before .before .before .written .result) (c .before .before .before .before .written .last .1 .1 .0) (c .before .before .before .before .written .last .1 .1 .1 .0) (c .before .before .before .before .written .ensures)
+returns-3 c = write-line (c .before .before .before .before .before .before .before .before .before .before .before .before .before .before .args .len) (c .before .before .before .before .before .before .before .before .before .before .before .before .before .before .args .self) (c .before .before .before .before .before .before .before .before .before .before .before .before .before .before .args .store .now) (c .before .before .before .before .before .before .before .before .before .before .before .before .before .before .args .large .now) (c .before .before .before .before .before .before .before .before .before .before .before .if1 .left) (c .before .before .before .before .before .before .before .before .before .before .if2 .left) (c .before .before .before .before .before .before .before .before .smaller .result) (c .before .before .before .before .before .before .before .before .smaller .ensures) (c .before .before .before .before .written .result) (c .before .before .before .before .written .last .1 .1 .0) (c .before .before .before .before .written .last .1 .1 .1 .0) (c .before .before .before .before .written .ensures)
 
 pub write-step-spec : {M : Type 1} → statement M
 write-step-spec =
