@@ -86,16 +86,6 @@ pub record Stayable (count : ℕ) (room : List ℕ) (last : ℕ) : Type 0 where
   pub run : runOk 0 count room ≡ true
   pub top : last ≤ topNumber
 
--- members from lo through hi of a set join a run
-pub record Joinable (count : ℕ) (room : List ℕ) (set : SequenceNumberSet) (lo : ℕ) : Type 0 where
-  pub run : runOk 0 count room ≡ true
-  pub bits : set .count ≤ 256
-  pub low : 1 ≤ lo
-  pub base : negative (set .base) ≡ false
-
-abbrev pub joining : ℕ → ℕ → SequenceNumberSet → List ℕ → List ℕ
-joining lo hi set l = union (between lo hi (members (sequenceSet set))) l
-
 -- an acknowledgement that isn't refused
 pub record Ackable (h : ReaderProxy) (unsent gaps : List ℕ) (set : SequenceNumberSet) (last : ℕ) : Type 0 where
   pub unsent-ok : unsentOk h unsent ≡ true

@@ -9,7 +9,6 @@ use lib.ListN.{drop}
 use lib.Seq.{length-take-le, take-all}
 use Rattle.numbers.specs.Number.{rankOf}
 use Rattle.number_sets.specs.Bits.{members}
-use Rattle.rtps_reader_proxy.proofs.Joins.{joins-long, p-le-q, q-le, count-fits, joined-members, more-fits, join-total, join-room}
 use Rattle.rtps_reader_proxy.proofs.AckCalls.{stay-late, stay-some}
 use borrow.Author.Needs.{needs}
 use Rattle.rtps_reader_proxy.proofs.acks.stay.Statement.{statement}
