@@ -1,5 +1,5 @@
 -- The room: what stands from one place to another gets as many cells as the members of a set need, and these are laid there. Assumes nothing.
-use Prim.Native.Nat.{ℕ, zero, suc, _+_, _-_, _≤_, _<_, min, max}
+use Prim.Native.Nat.{ℕ, suc, _+_, _-_, _≤_, _<_, min, max}
 use mathlib.Core.Path.{_≡_, refl, sym, ap, subst, _∙_}
 use mathlib.Core.Bool.{Bool, true, false, not, cond, _&&_, _||_}
 use mathlib.Core.List.{List, [], _∷_, _++_, append-nil, append-assoc}
@@ -7,7 +7,7 @@ use native.Mathlib.Omega.{arith}
 use lib.Dec.{leb, ltb, eqb}
 use lib.ListN.{length, take, drop, replicate, length-take, length-drop, length-append, length-replicate}
 use lib.Seq.{take-all, length-take-le, take-take, drop-drop, drop-at, take-append-le, take-append-add, drop-append-le}
-use borrow.Author.Tests.{leb-true, leb-false, le-leb, lt-leb, le-ltb, ltb-false, ne-eqb}
+use borrow.Author.Tests.{leb-true, leb-false, le-leb, le-ltb, ltb-false, ne-eqb}
 use Rattle.sets.specs.Sets.{smallest, empty}
 use Rattle.sets.proofs.Bools.{neither}
 use Rattle.sets.proofs.Loops.{done}
@@ -18,7 +18,7 @@ use Rattle.number_sets.specs.declared.sequence_number_set.Listed.{Listed}
 use Rattle.number_sets.specs.Bits.{members}
 use Rattle.number_sets.specs.Calls.{sequenceSet, joinedSet, sequenceRows, setRows, listed, allListed}
 use Rattle.number_sets.proofs.Meaning.{span-window}
-use Rattle.rising.specs.Runs.{over, inRoom, placeOf, cutOut, opened, openedWithin, filled}
+use Rattle.rising.specs.Runs.{over, inRoom, placeOf, cutOut, openedWithin, filled}
 use Rattle.rising.proofs.Rooms.{drop-take, as-well}
 use Rattle.rising.proofs.Inserts.{place-le}
 use Rattle.joined_runs.specs.Joined.{replaced, startIn, endIn, lying, withMembers, joinsNone, laidIn, joinedIn, resized, Within, Listable}

@@ -1,5 +1,5 @@
 -- What a joined run is, where the run rises: the smallest of the union with the members from lo through hi. Assumes nothing.
-use Prim.Native.Nat.{ℕ, zero, suc, _+_, _-_, _≤_, _<_}
+use Prim.Native.Nat.{ℕ, suc, _+_, _-_, _≤_, _<_}
 use mathlib.Core.Path.{_≡_, refl, sym, ap, _∙_}
 use mathlib.Core.Bool.{Bool, true, false, not, cond, _&&_, _||_, true≢false}
 use mathlib.Core.List.{List, [], _∷_, _++_}
@@ -8,7 +8,7 @@ use lib.Dec.{leb, ltb}
 use lib.ListN.{length, take, drop, length-take, take-append-drop}
 use lib.Seq.{length-take-le, take-all, drop-drop}
 use borrow.Author.Tests.{leb-true, leb-false, le-leb, lt-leb, ltb-true, le-ltb}
-use Rattle.sets.specs.Sets.{has, From, union, only, between, smallest, empty}
+use Rattle.sets.specs.Sets.{has, From, union, between, smallest, empty}
 use Rattle.sets.proofs.Bools.{and-left, and-right}
 use Rattle.sets.proofs.Has.{has-union, has-between, has-only, From-union, From-low, From-only, From-raise}
 use Rattle.sets.proofs.Smallest.{has-take-sub, has-drop-sub, From-take, From-drop}
@@ -24,7 +24,7 @@ use Rattle.rising.specs.Runs.{placeOf, roomOf, over}
 use Rattle.rising.proofs.Rooms.{drop-take, changed}
 use Rattle.rising.proofs.Inserts.{place-mono}
 use Rattle.rising.proofs.Meaning.{RunIs, in-room, room-is, from-only, before-only}
-use Rattle.joined_runs.specs.Joined.{replaced, startIn, endIn, lying, withMembers, joinsNone, joinedIn, laidIn}
+use Rattle.joined_runs.specs.Joined.{replaced, endIn, withMembers, joinsNone, joinedIn, laidIn}
 
 -- the place of the larger of two numbers, from the place of the smaller on
 place-past : (lo hi : ℕ) (l : List ℕ) → lo ≤ hi → placeOf lo l + placeOf hi (drop (placeOf lo l) l) ≡ placeOf hi l

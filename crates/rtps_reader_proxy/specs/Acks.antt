@@ -5,7 +5,6 @@ use mathlib.Core.Bool.{Bool, true, false, not, cond, _&&_, _||_}
 use mathlib.Core.List.{List, [], _∷_}
 use lib.Dec.{ltb}
 use lib.ListN.{length, take}
-use Rattle.sets.specs.Sets.{union, between, smallest}
 use Rattle.numbers.specs.Number.{topNumber, rankOf, inRange, negative, numberAt}
 use Rattle.numbers.specs.Refusals.{row, rowsOf, done, unless}
 use Rattle.numbers.specs.Promise.{Left1, Left2}

@@ -45,16 +45,14 @@ impl ReaderProxy {
     ) -> Answer
         ensures { λ r. ⌜ r ≡ answerOf (ackRows self (now (unsent .entry)) (now (gaps .entry)) set last) ⌝ }
     {
-        let base = set.base;
-        let bits = set.count;
         let good = self.unsent_ok(unsent) & self.gaps_ok(gaps);
         let within = last.within(9223372036854775806);
         let end = last.rank();
         let mut rows = Rows::none();
         rows.incoherent = !good;
-        rows.bits = 256 < bits;
-        rows.range = base.is_negative() | !within;
-        rows.ahead = end + 1 < arith::larger(base.rank(), 1);
+        rows.bits = 256 < set.count;
+        rows.range = set.base.is_negative() | !within;
+        rows.ahead = end + 1 < arith::larger(set.base.rank(), 1);
         Answer::of(rows)
     }
 
