@@ -15,7 +15,8 @@ use Rattle.sets.proofs.Smallest.{smallest-few, largest-few, From-drop, has-drop
 use Rattle.numbers.specs.Number.{topNumber}
 use Rattle.rising.specs.Runs.{risesAbove}
 use Rattle.rising.proofs.Meaning.{Rising, rises-are, are-rising, rising-only, rising-smallest, rising-largest, rising-insert, rising-union, rising-sub}
-use Rattle.rising.proofs.Changes.{only-le, insert-le}
+use Rattle.rising.proofs.Inserts.{insert-le}
+use Rattle.rising.proofs.Changes.{only-le}
 use Rattle.requested_fragments.specs.Entries.{Entry, samplesOf, requested, sent}
 use Rattle.requested_fragments.specs.Table.{coherentRooms, entriesOf, samplesRoom, wordsRoom, askedIn, markedIn}
 use Rattle.requested_fragments.proofs.Meaning.{Within}

@@ -51,18 +51,6 @@ first-is p c a n r w e =
     let q : r ≡ firstOr 0 (only (leb n) (take c a)) = e ∙ ap (firstOr 0) o in
     (ap (λ (x : ℕ). eqb x 0) q ∙ none-is (only (leb n) (take c a)) (From-weak 1 (suc p) (only (leb n) (take c a)) (omega arith) (From-only (suc p) (leb n) (take c a) f)), q)
 
-pub insert-le : (n : ℕ) (l : List ℕ) → length (insert n l) ≤ suc (length l)
-insert-le n [] = omega arith
-insert-le n (x ∷ xs) = lt (ltb n x) (insert-le n xs)
-  where
-    eq : (t : Bool) → length (insert n xs) ≤ suc (length xs) → length (cond t (x ∷ xs) (x ∷ insert n xs)) ≤ suc (suc (length xs))
-    eq true h = omega arith
-    eq false h = omega arith
-
-    lt : (t : Bool) → length (insert n xs) ≤ suc (length xs) → length (cond t (n ∷ x ∷ xs) (cond (eqb n x) (x ∷ xs) (x ∷ insert n xs))) ≤ suc (suc (length xs))
-    lt true h = omega arith
-    lt false h = eq (eqb n x) h
-
 -- a member that joins changes nothing
 pub insert-same : (n b : ℕ) (l : List ℕ) → From b l → has l n ≡ true → insert n l ≡ l
 insert-same n b l f h =

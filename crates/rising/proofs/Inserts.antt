@@ -1,7 +1,7 @@
 -- A number found by its place in a run: taken out, put in, or the run cut there. Assumes nothing.
 use Prim.Native.Nat.{ℕ, suc, zero, _+_, _-_, _<_, _≤_, min, max, zero-le, suc-le-suc}
 use mathlib.Core.Path.{_≡_, refl, sym, ap, _∙_}
-use mathlib.Core.Bool.{Bool, true, false, cond, false≢true}
+use mathlib.Core.Bool.{Bool, true, false, cond, _||_, false≢true}
 use mathlib.Core.List.{List, [], _∷_, _++_, append-nil, append-assoc}
 use native.Mathlib.Omega.{arith}
 use native.Mathlib.Nat.{lt-irrefl}
@@ -12,6 +12,7 @@ use borrow.Author.Tests.{le-leb, lt-leb, le-ltb, lt-ltb, eq-eqb, ne-eqb, leb-tru
 use Rattle.numbers.specs.Promise.{Gives1}
 use Rattle.sets.specs.Sets.{insert, largest}
 use Rattle.rising.specs.Runs.{placeOf, holdsAt, cutOut, putIn, removed, fromOn, before, insertWithin, newest, over, inRoom}
+use Rattle.sets.proofs.Bools.{or-no, neither}
 use Rattle.sets.proofs.Loops.{done}
 use Rattle.rising.proofs.Lists.{dropped}
 use Rattle.rising.proofs.Rooms.{past-room, changed, unchanged, as-well, back}
@@ -60,8 +61,23 @@ insert-new n (x ∷ xs) h = go (leb n x) refl h (insert-new n xs)
         let w = leb-false n x e in
         rw (le-ltb n x (omega arith), ne-eqb n x (λ z. lt-irrefl n (omega arith))) (ap (λ (y : List ℕ). x ∷ y) (r q))
 
+pub insert-le : (n : ℕ) (l : List ℕ) → length (insert n l) ≤ suc (length l)
+insert-le n [] = omega arith
+insert-le n (x ∷ xs) = lt (ltb n x) (insert-le n xs)
+  where
+    eq : (t : Bool) → length (insert n xs) ≤ suc (length xs) → length (cond t (x ∷ xs) (x ∷ insert n xs)) ≤ suc (suc (length xs))
+    eq true h = omega arith
+    eq false h = omega arith
+
+    lt : (t : Bool) → length (insert n xs) ≤ suc (length xs) → length (cond t (n ∷ x ∷ xs) (cond (eqb n x) (x ∷ xs) (x ∷ insert n xs))) ≤ suc (suc (length xs))
+    lt true h = omega arith
+    lt false h = eq (eqb n x) h
+
 pub put-length : (i n : ℕ) (l : List ℕ) → length (putIn i n l) ≡ suc (length l)
 put-length i n l = simp (length-append, length-take, length-drop) (omega arith)
+
+newest-few : (m n : ℕ) (l : List ℕ) → length (insert n l) ≤ m → newest m n l ≡ insert n l
+newest-few m n l q = let z : length (insert n l) - m ≡ 0 = omega arith in ap (λ (x : ℕ). drop x (insert n l)) z
 
 -- in the run of c numbers of a room a, i is the place of n
 module _ (c n i : ℕ) (a : List ℕ) (h : c ≤ length a) (e : i ≡ placeOf n (take c a)) where
@@ -103,15 +119,12 @@ module _ (c n i : ℕ) (a : List ℕ) (h : c ≤ length a) (e : i ≡ placeOf n 
         go true = q
         go false = refl
 
-    newest-few : (m : ℕ) → length (insert n (take c a)) ≤ m → newest m n (take c a) ≡ insert n (take c a)
-    newest-few m q = let z : length (insert n (take c a)) - m ≡ 0 = omega arith in ap (λ (x : ℕ). drop x (insert n (take c a))) z
-
     -- it is there
     pub insert-held : t ≡ true → Gives1 c a (inRoom (insertWithin (length a) n) c a)
     insert-held q = unchanged (insertWithin (length a) n) c a h (within-same (is-held q))
 
-    pub newest-held : t ≡ true → Gives1 c a (inRoom (newest (length a) n) c a)
-    newest-held q = unchanged (newest (length a) n) c a h (newest-few (length a) (omega (arith, ap length (is-held q), lc)) ∙ is-held q)
+    newest-held : t ≡ true → Gives1 c a (inRoom (newest (length a) n) c a)
+    newest-held q = unchanged (newest (length a) n) c a h (newest-few (length a) n (take c a) (omega (arith, ap length (is-held q), lc)) ∙ is-held q)
 
     -- there is no room for it
     pub insert-full : t ≡ false → c ≡ length a → Gives1 c a (inRoom (insertWithin (length a) n) c a)
@@ -132,11 +145,6 @@ module _ (c n i : ℕ) (a : List ℕ) (h : c ≤ length a) (e : i ≡ placeOf n 
           ap (λ (b : Bool). cond b (insert n (take c a)) (take c a)) (le-leb (length (insert n (take c a))) (length a) (omega (arith, new-length q))) in
           changed (insertWithin (length a) n) c a h r u (put-count ∙ ap length (sym w)) (put-room ∙ ap (over a c) (sym w))
 
-      pub newest-put : Gives1 r u (inRoom (newest (length a) n) c a)
-      newest-put =
-          let w = newest-few (length a) (omega (arith, new-length q)) in
-          changed (newest (length a) n) c a h r u (put-count ∙ ap length (sym w)) (put-room ∙ ap (over a c) (sym w))
-
     module _ (q : t ≡ false) (f : c ≡ length a) where
       one-out : newest (length a) n (take c a) ≡ drop 1 (putIn i n (take c a))
       one-out =
@@ -144,11 +152,11 @@ module _ (c n i : ℕ) (a : List ℕ) (h : c ≤ length a) (e : i ≡ placeOf n 
           ap (λ (x : ℕ). drop x (insert n (take c a))) z ∙ ap (drop 1) (is-new q)
 
       -- it is the smallest itself
-      pub newest-first : i ≡ 0 → Gives1 c a (inRoom (newest (length a) n) c a)
+      newest-first : i ≡ 0 → Gives1 c a (inRoom (newest (length a) n) c a)
       newest-first z = unchanged (newest (length a) n) c a h (one-out ∙ ap (λ (x : ℕ). drop 1 (putIn x n (take c a))) z)
 
       -- those below it move down by one
-      pub newest-moved : (u : List ℕ) → 0 < i → u ≡ set (back 0 i a (dropped 1 (take (i - 0) (drop 0 a)))) (i - 1) n → Gives1 c u (inRoom (newest (length a) n) c a)
+      newest-moved : (u : List ℕ) → 0 < i → u ≡ set (back 0 i a (dropped 1 (take (i - 0) (drop 0 a)))) (i - 1) n → Gives1 c u (inRoom (newest (length a) n) c a)
       newest-moved u z w =
           let pi = place-in in
           let al : take c a ≡ a = take-all c a (omega arith) in
@@ -164,3 +172,40 @@ module _ (c n i : ℕ) (a : List ℕ) (h : c ≤ length a) (e : i ≡ placeOf n 
           let nx : drop (max c c) a ≡ [] = done a (max c c) (omega arith) in
           let cc0 : c - c ≡ 0 = omega arith in
           changed (newest (length a) n) c a h c u (sym (ap length o ∙ lo)) (w ∙ room ∙ sym (ap (over a c) o ∙ rw (lo, cc0, nx, append-nil)))
+
+-- the newest, where there is room for one more
+pub newest-room : (c n : ℕ) (a : List ℕ) → c < length a → (r : ℕ) (u : List ℕ) → Gives1 r u (inRoom (insertWithin (length a) n) c a) → Gives1 r u (inRoom (newest (length a) n) c a)
+newest-room c n a h r u g =
+    let f : length (insert n (take c a)) ≤ length a = omega (arith, insert-le n (take c a), length-take c a) in
+    as-well (newest (length a) n) c a (omega arith) (insertWithin (length a) n) r u g
+    (ap (λ (b : Bool). cond b (insert n (take c a)) (take c a)) (le-leb (length (insert n (take c a))) (length a) f) ∙ sym (newest-few (length a) n (take c a) f))
+
+-- and where there is none
+module _ (c n i : ℕ) (a : List ℕ) (f : c ≡ length a) (e : i ≡ placeOf n a) (t : Bool) (p : t ≡ holdsAt n a i) where
+  whole : a ≡ take c a
+  whole = sym (take-all c a (omega arith))
+
+  fits : c ≤ length a
+  fits = omega arith
+
+  at : i ≡ placeOf n (take c a)
+  at = e ∙ ap (placeOf n) whole
+
+  is : t ≡ holdsAt n (take c a) i
+  is = p ∙ ap (λ (x : List ℕ). holdsAt n x i) whole
+
+  pub full-place : i ≤ length a
+  full-place = omega (arith, place-le n a)
+
+  pub newest-same : (eqb i 0 || t) ≡ true → Gives1 c a (inRoom (newest (length a) n) c a)
+  newest-same w = go t refl
+    where
+      go : (b : Bool) → t ≡ b → Gives1 c a (inRoom (newest (length a) n) c a)
+      go true q = newest-held c n i a fits at t is q
+      go false q = newest-first c n i a fits at t is q f (eqb-true i 0 (sym (or-no (eqb i 0)) ∙ ap (λ (x : Bool). eqb i 0 || x) (sym q) ∙ w))
+
+  pub newest-other : (eqb i 0 || t) ≡ false → (u : List ℕ) → u ≡ set (back 0 i a (dropped 1 (take (i - 0) (drop 0 a)))) (i - 1) n → Gives1 c u (inRoom (newest (length a) n) c a)
+  newest-other w u k = newest-moved c n i a fits at t is (neither (eqb i 0) t w .1) f u (omega (arith, eqb-false i 0 (neither (eqb i 0) t w .0))) k
+
+  pub full-some : (eqb i 0 || t) ≡ false → 0 < i
+  full-some w = omega (arith, eqb-false i 0 (neither (eqb i 0) t w .0))

@@ -189,11 +189,14 @@ module _ (i k c : ℕ) (a : List ℕ) (h : c ≤ length a) (at end : ℕ) (u : L
           (w ∙ ap (λ (x : ℕ). back at x a (lifted k (take (x - at) (drop at a)))) ee ∙ room-end at k c a (omega arith) h (omega arith) ∙ ap (over a c) within)
 
 -- one number put in: opened by one, and written
-pub put-done : (i c n : ℕ) (a : List ℕ) → i ≤ c → c < length a
-    → set (back i (c + 1) a (lifted 1 (take (c + 1 - i) (drop i a)))) i n ≡ over a c (putIn i n (take c a))
-put-done i c n a h r =
+pub put-done : (i c n : ℕ) (a : List ℕ) → i ≤ c → c < length a → (end : ℕ) (u : List ℕ) → Gives1 end u (inRoom (openedWithin (length a) i 1) c a)
+    → (end ≡ c + 1) × (set u i n ≡ over a c (putIn i n (take c a)))
+put-done i c n a h r end u g =
     let lc = length-take-le c a (omega arith) in
+    let lo : length (opened i 1 (take c a)) ≡ c + 1 = opened-length i 1 (take c a) (omega arith) ∙ ap (λ (y : ℕ). y + 1) lc in
+    let al : openedWithin (length a) i 1 (take c a) ≡ opened i 1 (take c a) = take-all (length a) (opened i 1 (take c a)) (omega arith) in
+    let q : Gives1 end u (record { result = length (opened i 1 (take c a)); first = over a c (opened i 1 (take c a)) }) = rw (le-leb c (length a) (omega arith), al) at g in
     let li : length (take i (take c a)) ≡ i = length-take-le i (take c a) (omega arith) in
     let ln : length (putIn i n (take c a)) ≡ length (opened i 1 (take c a)) =
     length-append (take i (take c a)) (n ∷ drop i (take c a)) ∙ sym (length-append (take i (take c a)) (0 ∷ drop i (take c a))) in
-    rw (room-open i 1 c a h (omega arith), ln, append-assoc (take i (take c a)), append-assoc (take i (take c a)), set-at (take i (take c a)) 0 _ n i li)
+    (q .result ∙ lo, rw (q .first, ln, append-assoc (take i (take c a)), append-assoc (take i (take c a)), set-at (take i (take c a)) 0 _ n i li))

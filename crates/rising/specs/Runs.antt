@@ -77,18 +77,6 @@ inRoom f count a =
     (record { result = length (f (take count a)); first = over a count (f (take count a)) })
     (record { result = count; first = a })
 
--- the numbers of two lists from their fronts, the smaller first, one that both have once
-abbrev pub ahead : ℕ → (List ℕ → List ℕ) → List ℕ → List ℕ
-ahead x f [] = x ∷ f []
-ahead x f (y ∷ ys) = cond (ltb y x) (y ∷ ahead x f ys) (x ∷ f (cond (eqb y x) ys (y ∷ ys)))
-
-abbrev pub merged : List ℕ → List ℕ → List ℕ
-merged [] t = t
-merged (x ∷ xs) t = ahead x (merged xs) t
-
 -- l in a room from its start, as far as it fits, and what stood there after it
 abbrev pub filled : List ℕ → List ℕ → List ℕ
 filled l room = take (length room) l ++ drop (length l) room
-
-abbrev pub mergedInto : List ℕ → List ℕ → List ℕ → Left1 ℕ (List ℕ)
-mergedInto a b room = record { result = length (merged a b); first = filled (merged a b) room }

@@ -94,8 +94,7 @@ fn put(s: &mut [u64], count: usize, i: usize, n: u64) -> usize
     requires { ⌜ (i ≤ count) × (count < length (now s)) ⌝ }
     ensures { λ r. ⌜ (r ≡ count + 1) × (now (s .exit) ≡ over (now (s .entry)) count (putIn i n (take count (now (s .entry))))) ⌝ }
 {
-    let end = count + 1;
-    run::lift(&mut s[i..end], 1);
+    let end = open(s, count, i, 1);
     s[i] = n;
     end
 }
@@ -121,17 +120,15 @@ pub fn insert(s: &mut [u64], count: usize, n: u64) -> usize
 pub fn insert_newest(s: &mut [u64], count: usize, n: u64) -> usize
     ensures { λ r. ⌜ Gives1 r (now (s .exit)) (inRoom (newest (length (now (s .entry))) n) count (now (s .entry))) ⌝ }
 {
+    if count < s.len() {
+        return insert(s, count, n);
+    }
     if s.len() < count {
         return count;
     }
-    let i = run::place(&s[..count], n);
-    if run::holds_at(&s[..count], i, n) {
-        return count;
-    }
-    if count < s.len() {
-        return put(s, count, i, n);
-    }
-    if i == 0 {
+    let i = run::place(s, n);
+    let held = run::holds_at(s, i, n);
+    if (i == 0) | held {
         return count;
     }
     run::drop_front(&mut s[0..i], 1);

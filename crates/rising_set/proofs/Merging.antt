@@ -11,7 +11,8 @@ use lib.Seq.{getD-take, take-all, take-at}
 use borrow.Author.Tests.{lt-ltb, le-ltb, eq-eqb, ne-eqb, ltb-true, ltb-false, eqb-true, eqb-false}
 use Rattle.sets.specs.Sets.{From, union}
 use Rattle.sets.proofs.Ext.{union-left, union-right, union-both, union-nil}
-use Rattle.rising.specs.Runs.{merged, ahead, filled}
+use Rattle.rising.specs.Runs.{filled}
+use Rattle.rising_set.specs.Merged.{merged, ahead}
 use Rattle.rising_set.specs.Turn.{Turned}
 use Rattle.sets.proofs.Loops.{here, done, upto, upto-more, upto-all}
 use Rattle.rising.proofs.Lists.{filled-length, filled-at, filled-end}

@@ -16,7 +16,8 @@ use Rattle.numbers.proofs.Refused.{clear, done-is, is-refused, is-done, gives1}
 use Rattle.sets.specs.Sets.{has, insert, only, between, without, union, smallest}
 use Rattle.sets.proofs.Bools.{and-left, and-right, decide}
 use mathlib.Core.Logic.{_⊎_, inl, inr}
-use Rattle.rising.specs.Runs.{roomOf, inRoom, insertWithin, removed, fromOn, before, cutOut, filled, mergedInto, over}
+use Rattle.rising.specs.Runs.{roomOf, inRoom, insertWithin, removed, fromOn, before, cutOut, filled, over}
+use Rattle.rising_set.specs.Merged.{mergedInto}
 use Rattle.rising_set.specs.Set.{isCoherent, membersOf, setOf, checked, unchanged, holding, changedBy, isFull, containedOf, joinedOf}
 use Rattle.numbers.specs.Number.{rankOf}
 use Rattle.numbers.specs.declared.sequence_number.SequenceNumber.{SequenceNumber}
@@ -27,7 +28,8 @@ use Rattle.sets.proofs.Loops.{done as past}
 use Rattle.rising.proofs.Lists.{filled-length}
 use Rattle.rising_set.proofs.Merging.{merged-union}
 use Rattle.rising.proofs.Meaning.{RunIs, run-is, in-room, from-only, removed-without}
-use Rattle.rising.proofs.Changes.{only-le, between-room, insert-le, insert-same}
+use Rattle.rising.proofs.Inserts.{insert-le}
+use Rattle.rising.proofs.Changes.{only-le, between-room, insert-same}
 
 module _ (s : RisingSet) (room : List ℕ) (rows : List Row) (a : Answer) (q : a ≡ answerOf (rowsOf (checked s room rows))) where
   pub change-refused : (f : List ℕ → List ℕ) → (a .number ≡ 0 → ⊥) → Gives1 (record { answer = a; set = s }) room (changedBy rows f s room)

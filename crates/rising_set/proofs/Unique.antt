@@ -5,7 +5,7 @@ use mathlib.Core.List.{List}
 use Rattle.numbers.specs.Refusals.{Row}
 use Rattle.numbers.specs.Promise.{Gives1}
 use Rattle.numbers.proofs.One.{one1}
-use Rattle.rising.specs.Runs.{mergedInto}
+use Rattle.rising_set.specs.Merged.{mergedInto}
 use Rattle.rising_set.specs.Set.{changedBy, joinedOf}
 use Rattle.rising_set.specs.declared.set.RisingSet.{RisingSet}
 use Rattle.rising_set.specs.declared.set.Changed.{Changed}

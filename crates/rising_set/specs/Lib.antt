@@ -1,3 +1,4 @@
 -- The definitions of `rising_set`.
+pub mod Merged
 pub mod Turn
 pub mod Set

@@ -4,7 +4,7 @@ use mathlib.Core.Path.{_≡_}
 use mathlib.Core.Bool.{Bool, true, false}
 use mathlib.Core.List.{List, [], _∷_}
 use lib.ListN.{length, drop}
-use Rattle.rising.specs.Runs.{merged}
+use Rattle.rising_set.specs.Merged.{merged}
 
 -- from i and j on, a turn finds the next number v of the merge, and stands at i′ and j′; or there is none
 pub record Turned (s t : List ℕ) (i j : ℕ) (more : Bool) (v i′ j′ : ℕ) : Type 0 where

@@ -3,7 +3,7 @@ ghost use mathlib.Core.Path.{_≡_};
 ghost use Prim.Native.Nat.{_<_};
 ghost use lib.ListN.{length};
 ghost use Rattle.numbers.specs.Promise.{Gives1};
-ghost use Rattle.rising.specs.Runs.{mergedInto};
+ghost use Rattle.rising_set.specs.Merged.{mergedInto};
 ghost use Rattle.rising_set.specs.Turn.{Turned};
 
 // The next number of two runs, from i and j on, and where each then stands.

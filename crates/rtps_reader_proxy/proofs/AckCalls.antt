@@ -22,15 +22,17 @@ use Rattle.numbers.proofs.Refused.{clear, is-refused, is-done, gives2}
 use Rattle.numbers.proofs.Ranks.{in-range}
 use Rattle.number_sets.specs.declared.sequence_number_set.SequenceNumberSet.{SequenceNumberSet}
 use Rattle.number_sets.specs.Bits.{members}
-use Rattle.number_sets.specs.Calls.{sequenceSet}
+use Rattle.number_sets.specs.Calls.{sequenceSet, cutSet}
 use Rattle.rising.specs.Runs.{runOk, roomOf, inRoom, fromOn, before}
 use Rattle.rising.proofs.Meaning.{RunIs, run-is, in-room, room-is, room-ok, room-take, room-length, from-only, rising-only}
 use Rattle.rising.proofs.Changes.{between-room, only-le}
+use Rattle.joined_runs.specs.Joined.{joinedIn}
+use Rattle.joined_runs.proofs.Meaning.{join-is}
 use Rattle.rtps_reader_proxy.specs.declared.proxy.ReaderProxy.{ReaderProxy}
 use Rattle.rtps_reader_proxy.specs.declared.acks.AckNacked.{AckNacked}
 use Rattle.rtps_reader_proxy.specs.Reader.{Reader, baseOf, isLate, isAhead, staying, wanted, ackedAfter, leftOut}
 use Rattle.rtps_reader_proxy.specs.Record.{headOk, unsentOk, gapsOk, gapFloor}
-use Rattle.rtps_reader_proxy.specs.Acks.{ackRows, ackNackedOf, ackLeaves, acked, byBoth, headAfter, runLeft, Stayable, Joinable, joining, Ackable, ackedWith}
+use Rattle.rtps_reader_proxy.specs.Acks.{ackRows, ackNackedOf, ackLeaves, acked, byBoth, headAfter, runLeft, Stayable, Ackable, ackedWith}
 use Rattle.rtps_reader_proxy.proofs.UnsentCalls.{UnsentIs, unsent-is}
 use Rattle.rtps_reader_proxy.proofs.GapCalls.{GapsAre, gaps-are}
 
@@ -95,8 +97,8 @@ module _ (h : ReaderProxy) (unsent gaps : List ℕ) (set : SequenceNumberSet) (l
     stays : staying last base a old ≡ staying last B A old
     stays = ap (λ (x : ℕ). staying last base x old) ea ∙ ap (λ (x : ℕ). staying last x A old) eb
 
-    pub joinable : Joinable c v set low
-    joinable = record { run = rw (s .result, s .first) (stayed-ok (h .«unsent_count») last base a unsent (us .run)); bits = k .bits; low = omega arith; base = k .base }
+    kept-run : RunIs 0 c v
+    kept-run = run-is 0 c v (rw (s .result, s .first) (stayed-ok (h .«unsent_count») last base a unsent (us .run)))
 
     run-kept : take c v ≡ staying last B A old
     run-kept = rw (s .result, s .first) (room-take (length unsent) (staying last base a old)) ∙ stays
@@ -109,14 +111,17 @@ module _ (h : ReaderProxy) (unsent gaps : List ℕ) (set : SequenceNumberSet) (l
         few false = omega (arith, only-le (λ n. leb (baseOf base) n && leb n last) old, length-take (h .«unsent_count») unsent)
 
     module _ (total kept : ℕ) (u g : List ℕ) (r : AckNacked)
-        (t : Gives1 total u (runLeft (length (joining low last set (take c v))) (length v) (smallest (length v) (joining low last set (take c v)))))
+        (j : Gives1 total u (joinedIn (cutSet set low last) c v))
         (w : Gives1 kept g (inRoom (fromOn low) (h .«gap_count») gaps)) (er : r ≡ ackedWith low total kept h) where
-      all-is : joining low last set (take c v) ≡ wanted last B (members (sequenceSet set)) A old
-      all-is = ap (λ (y : ℕ). joining y last set (take c v)) low-is ∙ ap (joining (ackedAfter A B) last set) run-kept
+      t : (total ≡ length (union (between low last (members (sequenceSet set))) (take c v))) × (u ≡ roomOf (length v) (smallest (length v) (union (between low last (members (sequenceSet set))) (take c v))))
+      t = join-is c v kept-run set low last (k .bits) (k .base) (omega arith) total u j
+
+      all-is : union (between low last (members (sequenceSet set))) (take c v) ≡ wanted last B (members (sequenceSet set)) A old
+      all-is = ap (λ (y : ℕ). union (between y last (members (sequenceSet set))) (take c v)) low-is ∙ ap (union (between (ackedAfter A B) last (members (sequenceSet set)))) run-kept
 
       pub acknowledged-is : Gives2 r u g (ackLeaves set last h unsent gaps)
       acknowledged-is =
-          let tl : total ≡ length (wanted last B (members (sequenceSet set)) A old) = t .result ∙ ap length all-is in
+          let tl : total ≡ length (wanted last B (members (sequenceSet set)) A old) = t .0 ∙ ap length all-is in
           let lo : total - h .«unsent_cap» ≡ leftOut last B (members (sequenceSet set)) (byBoth h unsent gaps) = ap (λ (y : ℕ). y - h .«unsent_cap») tl in
           let cu : total - (total - h .«unsent_cap») ≡ length (smallest (h .«unsent_cap») (wanted last B (members (sequenceSet set)) A old)) = omega (arith, length-take (h .«unsent_cap») (wanted last B (members (sequenceSet set)) A old)) in
           let fr : From 1 held = From-weak 1 (suc (gapFloor h)) held (omega arith) (gs .run .rises .from) in
@@ -125,7 +130,7 @@ module _ (h : ReaderProxy) (unsent gaps : List ℕ) (set : SequenceNumberSet) (l
           let ck : kept ≡ length (only (leb (ackedAfter A B)) held) = y .0 ∙ ap length gk in
           record {
             result = er ∙ rw (cu, lo, ck, low-is);
-            first = t .first ∙ ap (λ (z : ℕ). roomOf z (smallest z (joining low last set (take c v)))) long-kept ∙ ap (λ (z : List ℕ). roomOf (h .«unsent_cap») (smallest (h .«unsent_cap») z)) all-is;
+            first = t .1 ∙ ap (λ (z : ℕ). roomOf z (smallest z (union (between low last (members (sequenceSet set))) (take c v)))) long-kept ∙ ap (λ (z : List ℕ). roomOf (h .«unsent_cap») (smallest (h .«unsent_cap») z)) all-is;
             second = y .1 ∙ ap (λ (z : ℕ). roomOf z (only (leb low) held)) (gs .long) ∙ ap (roomOf 256) gk;
           }
 

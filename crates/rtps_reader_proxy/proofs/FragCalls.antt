@@ -25,7 +25,8 @@ use Rattle.number_sets.specs.declared.fragment_number_set.FragmentNumberSet.{Fr
 use Rattle.number_sets.specs.Bits.{members}
 use Rattle.number_sets.specs.Calls.{fragmentSet}
 use Rattle.rising.proofs.Meaning.{rises-are}
-use Rattle.rising.proofs.Changes.{insert-le, insert-same}
+use Rattle.rising.proofs.Inserts.{insert-le}
+use Rattle.rising.proofs.Changes.{insert-same}
 use Rattle.requested_fragments.specs.declared.table.NextPiece.{NextPiece}
 use Rattle.requested_fragments.specs.Entries.{Entry, asked, requested, sent, samplesOf, nextSample, nextFragment, some}
 use Rattle.requested_fragments.specs.Table.{Block, coherentRooms, tableOf, view, entriesOf, samplesRoom, wordsRoom, askT, askable, fits, askedIn, markedIn, nextOf}

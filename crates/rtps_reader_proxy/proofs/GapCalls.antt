@@ -26,7 +26,8 @@ use Rattle.sets.proofs.Bools.{and-left, and-right, decide, neither}
 use Rattle.sets.proofs.Has.{From-weak}
 use Rattle.rising.specs.Runs.{runOk, roomOf, inRoom, insertWithin, fromOn}
 use Rattle.rising.proofs.Meaning.{RunIs, run-is, in-room, from-only, room-is}
-use Rattle.rising.proofs.Changes.{only-le, insert-le, first-is}
+use Rattle.rising.proofs.Inserts.{insert-le}
+use Rattle.rising.proofs.Changes.{only-le, first-is}
 use Rattle.rtps_reader_proxy.specs.declared.proxy.ReaderProxy.{ReaderProxy}
 use Rattle.rtps_reader_proxy.specs.declared.proxy.Changed.{Changed}
 use Rattle.rtps_reader_proxy.specs.Reader.{Reader, needsRoom, gapInserted, gapUpTo, nextGap}

@@ -1,7 +1,6 @@
 -- Laws that belong to no one function.
 pub mod UnsentCalls
 pub mod GapCalls
-pub mod Joins
 pub mod AckCalls
 pub mod AckMeaning
 pub mod FragCalls

@@ -5,7 +5,6 @@ use mathlib.Core.Bool.{Bool, true, false, not, cond, _&&_, _||_}
 use mathlib.Core.List.{List, [], _∷_}
 use lib.Dec.{ltb}
 use lib.ListN.{length, take}
-use Rattle.sets.specs.Sets.{union, between, smallest}
 use Rattle.numbers.specs.Number.{topNumber, rankOf, inRange, negative, numberAt}
 use Rattle.numbers.specs.Refusals.{row, rowsOf, done, unless}
 use Rattle.numbers.specs.Promise.{Left1, Left2}
@@ -85,16 +84,6 @@ runLeft n m l = record { result = n; first = roomOf m l }
 pub record Stayable (count : ℕ) (room : List ℕ) (last : ℕ) : Type 0 where
   pub run : runOk 0 count room ≡ true
   pub top : last ≤ topNumber
-
--- members from lo through hi of a set join a run
-pub record Joinable (count : ℕ) (room : List ℕ) (set : SequenceNumberSet) (lo : ℕ) : Type 0 where
-  pub run : runOk 0 count room ≡ true
-  pub bits : set .count ≤ 256
-  pub low : 1 ≤ lo
-  pub base : negative (set .base) ≡ false
-
-abbrev pub joining : ℕ → ℕ → SequenceNumberSet → List ℕ → List ℕ
-joining lo hi set l = union (between lo hi (members (sequenceSet set))) l
 
 -- an acknowledgement that isn't refused
 pub record Ackable (h : ReaderProxy) (unsent gaps : List ℕ) (set : SequenceNumberSet) (last : ℕ) : Type 0 where

@@ -1,19 +1,18 @@
 // An ACKNACK: which numbers the reader has, and which it asks for.
 ghost use mathlib.Core.Path.{_≡_};
 ghost use lib.ListN.{length, take};
-ghost use Rattle.sets.specs.Sets.{smallest};
 ghost use Rattle.numbers.specs.Promise.{Gives1, Gives2};
 ghost use Rattle.numbers.specs.Refusals.{answerOf};
 ghost use Rattle.rtps_reader_proxy.specs.Reader.{staying};
-ghost use Rattle.rtps_reader_proxy.specs.Acks.{ackNackedOf, ackRows, ackLeaves, ackedWith, Ackable, runLeft, Stayable, Joinable, joining};
+ghost use Rattle.rtps_reader_proxy.specs.Acks.{ackNackedOf, ackRows, ackLeaves, ackedWith, Ackable, runLeft, Stayable};
 use crate::proxy::ReaderProxy;
+use joined_runs::join;
 use number_sets::SequenceNumberSet;
 use numbers::Answer;
 use numbers::Rows;
 use numbers::SequenceNumber;
 use numbers::arith;
 use rising::room;
-use rising::run;
 
 #[repr(C)]
 pub struct AckNacked {
@@ -35,22 +34,6 @@ fn stay(unsent: &mut [u64], count: usize, a: u64, base: u64, last: u64) -> usize
     room::keep_before(unsent, some, last + 1)
 }
 
-// The members of a set from lo through hi join a run: those of the run that lie in the set's 256 bits join the set, and its members then take their place
-// in the run. The smallest stay, as many as the room holds; how many there were is returned.
-fn join(unsent: &mut [u64], count: usize, set: SequenceNumberSet, lo: u64, hi: u64) -> usize
-    requires { ⌜ Joinable count (now unsent) set lo ⌝ }
-    ensures { λ r. ⌜ Gives1 r (now (unsent .exit)) (runLeft (length (joining lo hi set (take count (now (unsent .entry))))) (length (now (unsent .entry))) (smallest (length (now (unsent .entry))) (joining lo hi set (take count (now (unsent .entry)))))) ⌝ }
-{
-    let first = set.base.rank();
-    let p = run::place(&unsent[..count], first);
-    let q = run::place(&unsent[..count], first + 256);
-    let all = set.cut(lo, hi).joined(&unsent[p..q]);
-    let more = all.size() - (q - p);
-    room::open(unsent, count, q, more);
-    all.list_members(&mut unsent[p..]);
-    count + more
-}
-
 impl ReaderProxy {
     // The answer of an acknowledgement: 1, 3, 2, 12 or done.
     fn check_ack(
@@ -62,16 +45,14 @@ impl ReaderProxy {
     ) -> Answer
         ensures { λ r. ⌜ r ≡ answerOf (ackRows self (now (unsent .entry)) (now (gaps .entry)) set last) ⌝ }
     {
-        let base = set.base;
-        let bits = set.count;
         let good = self.unsent_ok(unsent) & self.gaps_ok(gaps);
         let within = last.within(9223372036854775806);
         let end = last.rank();
         let mut rows = Rows::none();
         rows.incoherent = !good;
-        rows.bits = 256 < bits;
-        rows.range = base.is_negative() | !within;
-        rows.ahead = end + 1 < arith::larger(base.rank(), 1);
+        rows.bits = 256 < set.count;
+        rows.range = set.base.is_negative() | !within;
+        rows.ahead = end + 1 < arith::larger(set.base.rank(), 1);
         Answer::of(rows)
     }
 

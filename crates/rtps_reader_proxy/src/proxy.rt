@@ -48,11 +48,12 @@ impl ReaderProxy {
         rows.limit = !((1 <= cap) & (cap <= 1024));
         let answer = Answer::of(rows);
         let unsent_cap = if answer.number == 0 { cap } else { 0 };
+        let zero = SequenceNumber(0);
         let proxy = ReaderProxy {
-            all_acked_before: SequenceNumber(0),
+            all_acked_before: zero,
             unsent_cap,
             unsent_count: 0,
-            gap_prefix_end: SequenceNumber(0),
+            gap_prefix_end: zero,
             gap_count: 0,
             frag_count: 0,
         };

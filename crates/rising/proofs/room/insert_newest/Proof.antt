@@ -1,58 +1,38 @@
 -- `insert_newest` meets its contract. Assumes nothing.
-use Prim.Native.Nat.{ℕ, _≤_, _<_, _+_, _-_}
-use mathlib.Core.Path.{_≡_, refl, sym, ap, _∙_}
+use Prim.Native.Nat.{ℕ, _-_}
+use mathlib.Core.Path.{ap}
 use mathlib.Core.List.{List}
 use native.Mathlib.Omega.{arith}
-use lib.ListN.{length, take, drop, set}
-use lib.Seq.{length-take-le}
-use Rattle.rising.specs.Runs.{removed, fromOn, before, cutOut}
-use Rattle.rising.proofs.Rooms.{past-room, changed, unchanged, as-well, back, cut-none, cut-some, open-done, put-done}
-use Rattle.rising.proofs.Inserts.{place-in, removed-held, removed-none, from-is, before-is, insert-held, insert-full, insert-put, newest-held, newest-put, newest-first, newest-moved}
+use lib.ListN.{set}
+use Rattle.rising.proofs.Rooms.{past-room, back}
+use Rattle.rising.proofs.Inserts.{newest-room, full-place, full-some, newest-same, newest-other}
 use borrow.Author.Needs.{needs}
 use Rattle.rising.proofs.room.insert_newest.Statement.{statement}
 use Rattle.rising.proofs.room.insert_newest.Tie as tie
 
-returns : tie.Need-returns
-returns c = search (needs, past-room)
-
-slice-reshare-prefix-place : tie.Need-slice-reshare-prefix-place
-slice-reshare-prefix-place c = search needs
-
-slice-aggregate-place : tie.Need-slice-aggregate-place
-slice-aggregate-place c = sym (length-take-le (c .before .before .before .args .count) (c .before .before .before .args .s .now) (omega arith))
-
-place-requires : tie.Need-place-requires
-place-requires c κs = search needs
-
-slice-reshare-prefix-holds-at : tie.Need-slice-reshare-prefix-holds-at
-slice-reshare-prefix-holds-at c = search needs
-
-slice-aggregate-holds-at : tie.Need-slice-aggregate-holds-at
-slice-aggregate-holds-at c = sym (length-take-le (c .before .before .before .before .before .args .count) (c .before .before .before .before .before .args .s .now) (omega arith))
-
-holds-at-requires : tie.Need-holds-at-requires
-holds-at-requires c κs = search needs
+insert-requires : tie.Need-insert-requires
+insert-requires c κs = search needs
 
 same-length : tie.Need-same-length
 same-length c = search needs
 
-returns-2 : tie.Need-returns-2
-returns-2 c = newest-held (c .before .before .before .before .before .before .before .args .count) (c .before .before .before .before .before .before .before .args .n) (c .before .before .before .place .result) (c .before .before .before .before .before .before .before .args .s .now) (c .before .before .before .before .before .if1 .left) (c .before .before .before .place .ensures) (c .before .holds-at .result) (c .before .holds-at .ensures) (c .if2 .taken)
+returns : tie.Need-returns
+returns c = let z = c .before .before .before .before .before .before in newest-room (z .args .count) (z .args .n) (z .args .s .now) (c .before .before .before .before .if1 .taken) (c .before .before .insert .result) (c .before .before .insert .last .0) (c .before .before .insert .ensures)
 
-put-requires : tie.Need-put-requires
-put-requires c κs = (place-in (c .before .before .before .before .before .before .before .before .before .args .count) (c .before .before .before .before .before .before .before .before .before .args .n) (c .before .before .before .before .before .place .result) (c .before .before .before .before .before .before .before .before .before .args .s .now) (c .before .before .before .before .before .before .before .if1 .left) (c .before .before .before .before .before .place .ensures), search needs)
+returns-2 : tie.Need-returns-2
+returns-2 c = search (needs, past-room)
+
+place-requires : tie.Need-place-requires
+place-requires c κs = search needs
+
+holds-at-requires : tie.Need-holds-at-requires
+holds-at-requires c κs = search needs
 
 same-length-2 : tie.Need-same-length-2
 same-length-2 c = search needs
 
 returns-3 : tie.Need-returns-3
-returns-3 c = newest-put (c .before .before .before .before .before .before .before .before .before .before .before .before .args .count) (c .before .before .before .before .before .before .before .before .before .before .before .before .args .n) (c .before .before .before .before .before .before .before .before .place .result) (c .before .before .before .before .before .before .before .before .before .before .before .before .args .s .now) (c .before .before .before .before .before .before .before .before .before .before .if1 .left) (c .before .before .before .before .before .before .before .before .place .ensures) (c .before .before .before .before .before .before .holds-at .result) (c .before .before .before .before .before .before .holds-at .ensures) (c .before .before .put .result) (c .before .before .put .last .0) (c .before .before .put .ensures) (c .before .before .before .before .before .if2 .left) (c .before .before .before .before .if3 .taken)
-
-same-length-3 : tie.Need-same-length-3
-same-length-3 c = search needs
-
-returns-4 : tie.Need-returns-4
-returns-4 c = newest-first (c .before .before .before .before .before .before .before .before .before .args .count) (c .before .before .before .before .before .before .before .before .before .args .n) (c .before .before .before .before .before .place .result) (c .before .before .before .before .before .before .before .before .before .args .s .now) (c .before .before .before .before .before .before .before .if1 .left) (c .before .before .before .before .before .place .ensures) (c .before .before .before .holds-at .result) (c .before .before .before .holds-at .ensures) (c .before .before .if2 .left) (omega arith) (c .if4 .taken)
+returns-3 c = let z = c .before .before .before .before .before .before .before .before in newest-same (z .args .count) (z .args .n) (c .before .before .before .place .result) (z .args .s .now) (omega arith) (c .before .before .before .place .ensures) (c .before .holds-at .result) (c .before .holds-at .ensures) (c .if3 .taken)
 
 sub-drop-front : tie.Need-sub-drop-front
 sub-drop-front c = search needs
@@ -61,44 +41,38 @@ part-drop-front-start : tie.Need-part-drop-front-start
 part-drop-front-start c = search needs
 
 part-drop-front-end : tie.Need-part-drop-front-end
-part-drop-front-end c = omega (arith, place-in (c .before .before .before .before .before .before .before .before .before .args .count) (c .before .before .before .before .before .before .before .before .before .args .n) (c .before .before .before .before .before .place .result) (c .before .before .before .before .before .before .before .before .before .args .s .now) (c .before .before .before .before .before .before .before .if1 .left) (c .before .before .before .before .before .place .ensures))
+part-drop-front-end c = let z = c .before .before .before .before .before .before .before .before in full-place (z .args .count) (z .args .n) (c .before .before .before .place .result) (z .args .s .now) (omega arith) (c .before .before .before .place .ensures) (c .before .holds-at .result) (c .before .holds-at .ensures)
 
 drop-front-requires : tie.Need-drop-front-requires
 drop-front-requires c κs = search needs
 
 sub-s : tie.Need-sub-s
-sub-s c = search needs
+sub-s c = let z = c .before .before .before .before .before .before .before .before .before .before .before .before in full-some (z .args .count) (z .args .n) (c .before .before .before .before .before .before .before .place .result) (z .args .s .now) (omega arith) (c .before .before .before .before .before .before .before .place .ensures) (c .before .before .before .before .before .holds-at .result) (c .before .before .before .before .before .holds-at .ensures) (c .before .before .before .before .if3 .left)
 
 mul-s : tie.Need-mul-s
-mul-s c = omega (arith, place-in (c .before .before .before .before .before .before .before .before .before .before .before .before .before .args .count) (c .before .before .before .before .before .before .before .before .before .before .before .before .before .args .n) (c .before .before .before .before .before .before .before .before .before .place .result) (c .before .before .before .before .before .before .before .before .before .before .before .before .before .args .s .now) (c .before .before .before .before .before .before .before .before .before .before .before .if1 .left) (c .before .before .before .before .before .before .before .before .before .place .ensures))
+mul-s c = let z = c .before .before .before .before .before .before .before .before .before .before .before .before in omega (arith, full-place (z .args .count) (z .args .n) (c .before .before .before .before .before .before .before .place .result) (z .args .s .now) (omega arith) (c .before .before .before .before .before .before .before .place .ensures) (c .before .before .before .before .before .holds-at .result) (c .before .before .before .before .before .holds-at .ensures))
 
 slice-write-s : tie.Need-slice-write-s
-slice-write-s c = omega (arith, place-in (c .before .before .before .before .before .before .before .before .before .before .before .before .before .args .count) (c .before .before .before .before .before .before .before .before .before .before .before .before .before .args .n) (c .before .before .before .before .before .before .before .before .before .place .result) (c .before .before .before .before .before .before .before .before .before .before .before .before .before .args .s .now) (c .before .before .before .before .before .before .before .before .before .before .before .if1 .left) (c .before .before .before .before .before .before .before .before .before .place .ensures))
+slice-write-s c = let z = c .before .before .before .before .before .before .before .before .before .before .before .before in omega (arith, full-place (z .args .count) (z .args .n) (c .before .before .before .before .before .before .before .place .result) (z .args .s .now) (omega arith) (c .before .before .before .before .before .before .before .place .ensures) (c .before .before .before .before .before .holds-at .result) (c .before .before .before .before .before .holds-at .ensures), full-some (z .args .count) (z .args .n) (c .before .before .before .before .before .before .before .place .result) (z .args .s .now) (omega arith) (c .before .before .before .before .before .before .before .place .ensures) (c .before .before .before .before .before .holds-at .result) (c .before .before .before .before .before .holds-at .ensures) (c .before .before .before .before .if3 .left))
 
-same-length-4 : tie.Need-same-length-4
-same-length-4 c = search needs
+same-length-3 : tie.Need-same-length-3
+same-length-3 c = search needs
 
-returns-5 : tie.Need-returns-5
-returns-5 c = newest-moved (c .before .before .before .before .before .before .before .before .before .before .before .before .before .args .count) (c .before .before .before .before .before .before .before .before .before .before .before .before .before .args .n) (c .before .before .before .before .before .before .before .before .before .place .result) (c .before .before .before .before .before .before .before .before .before .before .before .before .before .args .s .now) (c .before .before .before .before .before .before .before .before .before .before .before .if1 .left) (c .before .before .before .before .before .before .before .before .before .place .ensures) (c .before .before .before .before .before .before .before .holds-at .result) (c .before .before .before .before .before .before .before .holds-at .ensures) (c .before .before .before .before .before .before .if2 .left) (omega arith) _ (omega arith) (ap (λ (x : List ℕ). set (back 0 (c .before .before .before .before .before .before .before .before .before .place .result) (c .before .before .before .before .before .before .before .before .before .before .before .before .before .args .s .now) x) (c .before .before .before .before .before .before .before .before .before .place .result - 1) (c .before .before .before .before .before .before .before .before .before .before .before .before .before .args .n)) (c .before .before .drop-front .ensures))
+returns-4 : tie.Need-returns-4
+returns-4 c = let z = c .before .before .before .before .before .before .before .before .before .before .before .before in newest-other (z .args .count) (z .args .n) (c .before .before .before .before .before .before .before .place .result) (z .args .s .now) (omega arith) (c .before .before .before .before .before .before .before .place .ensures) (c .before .before .before .before .before .holds-at .result) (c .before .before .before .before .before .holds-at .ensures) (c .before .before .before .before .if3 .left) _ (ap (λ (x : List ℕ). set (back 0 (c .before .before .before .before .before .before .before .place .result) (z .args .s .now) x) (c .before .before .before .before .before .before .before .place .result - 1) (z .args .n)) (c .before .before .drop-front .ensures))
 
 pub insert-newest-spec : {M : Type 1} → statement M
 insert-newest-spec =
     tie.close
     (tie.spec
-    returns
-    slice-reshare-prefix-place
-    slice-aggregate-place
-    place-requires
-    slice-reshare-prefix-holds-at
-    slice-aggregate-holds-at
-    holds-at-requires
+    insert-requires
     same-length
+    returns
     returns-2
-    put-requires
+    place-requires
+    holds-at-requires
     same-length-2
     returns-3
-    same-length-3
-    returns-4
     sub-drop-front
     part-drop-front-start
     part-drop-front-end
@@ -106,5 +80,5 @@ insert-newest-spec =
     sub-s
     mul-s
     slice-write-s
-    same-length-4
-    returns-5)
+    same-length-3
+    returns-4)

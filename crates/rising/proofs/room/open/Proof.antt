@@ -7,7 +7,7 @@ use lib.ListN.{length, take, drop, set}
 use lib.Seq.{length-take-le}
 use Rattle.rising.specs.Runs.{removed, fromOn, before, cutOut}
 use Rattle.rising.proofs.Rooms.{past-room, changed, unchanged, as-well, back, cut-none, cut-some, open-done, put-done}
-use Rattle.rising.proofs.Inserts.{place-in, removed-held, removed-none, from-is, before-is, insert-held, insert-full, insert-put, newest-held, newest-put, newest-first, newest-moved}
+use Rattle.rising.proofs.Inserts.{place-in, removed-held, removed-none, from-is, before-is, insert-held, insert-full, insert-put}
 use borrow.Author.Needs.{needs}
 use Rattle.rising.proofs.room.open.Statement.{statement}
 use Rattle.rising.proofs.room.open.Tie as tie

@@ -1,34 +1,11 @@
 -- `put` meets its contract. Assumes nothing.
-use Prim.Native.Nat.{ℕ, _≤_, _<_, _+_, _-_}
-use mathlib.Core.Path.{_≡_, refl, sym, ap, _∙_}
-use mathlib.Core.List.{List}
-use native.Mathlib.Omega.{arith}
-use lib.ListN.{length, take, drop, set}
-use lib.Seq.{length-take-le}
-use Rattle.rising.specs.Runs.{removed, fromOn, before, cutOut}
-use Rattle.rising.proofs.Rooms.{past-room, changed, unchanged, as-well, back, cut-none, cut-some, open-done, put-done}
-use Rattle.rising.proofs.Inserts.{place-in, removed-held, removed-none, from-is, before-is, insert-held, insert-full, insert-put, newest-held, newest-put, newest-first, newest-moved}
+use Rattle.rising.proofs.Rooms.{put-done}
 use borrow.Author.Needs.{needs}
 use Rattle.rising.proofs.room.put.Statement.{statement}
 use Rattle.rising.proofs.room.put.Tie as tie
 
-add-end : tie.Need-add-end
-add-end c = search needs
-
-mul-lift : tie.Need-mul-lift
-mul-lift c = search needs
-
-sub-lift : tie.Need-sub-lift
-sub-lift c = search needs
-
-part-lift-start : tie.Need-part-lift-start
-part-lift-start c = search needs
-
-part-lift-end : tie.Need-part-lift-end
-part-lift-end c = search needs
-
-lift-requires : tie.Need-lift-requires
-lift-requires c κs = search needs
+open-requires : tie.Need-open-requires
+open-requires c κs = search needs
 
 mul-s : tie.Need-mul-s
 mul-s c = search needs
@@ -40,19 +17,7 @@ same-length : tie.Need-same-length
 same-length c = search needs
 
 returns : tie.Need-returns
-returns c = (refl, ap (λ (x : List ℕ). set (back (c .before .before .before .before .before .args .i) (c .before .before .before .before .before .args .count + 1) (c .before .before .before .before .before .args .s .now) x) (c .before .before .before .before .before .args .i) (c .before .before .before .before .before .args .n)) (c .before .before .lift .ensures) ∙ put-done (c .before .before .before .before .before .args .i) (c .before .before .before .before .before .args .count) (c .before .before .before .before .before .args .n) (c .before .before .before .before .before .args .s .now) (c .before .before .before .before .before .pre .0) (c .before .before .before .before .before .pre .1))
+returns c = let z = c .before .before .before .before .before in put-done (z .args .i) (z .args .count) (z .args .n) (z .args .s .now) (z .pre .0) (z .pre .1) (c .before .before .«open» .result) (c .before .before .«open» .last .0) (c .before .before .«open» .ensures)
 
 pub put-spec : {M : Type 1} → statement M
-put-spec =
-    tie.close
-    (tie.spec
-    add-end
-    mul-lift
-    sub-lift
-    part-lift-start
-    part-lift-end
-    lift-requires
-    mul-s
-    slice-write-s
-    same-length
-    returns)
+put-spec = tie.close (tie.spec open-requires mul-s slice-write-s same-length returns)

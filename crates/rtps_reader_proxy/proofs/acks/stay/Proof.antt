@@ -1,15 +1,4 @@
 -- `stay` meets its contract. Assumes nothing.
-use Prim.Native.Nat.{ℕ, _≤_, _<_, _+_, _-_, max}
-use mathlib.Core.Path.{_≡_, refl, sym, ap, _∙_}
-use mathlib.Core.List.{List, [], _∷_}
-use mathlib.Core.Bool.{Bool, not, false}
-use native.Mathlib.Omega.{arith}
-use lib.ListN.{length, take}
-use lib.ListN.{drop}
-use lib.Seq.{length-take-le, take-all}
-use Rattle.numbers.specs.Number.{rankOf}
-use Rattle.number_sets.specs.Bits.{members}
-use Rattle.rtps_reader_proxy.proofs.Joins.{joins-long, p-le-q, q-le, count-fits, joined-members, more-fits, join-total, join-room}
 use Rattle.rtps_reader_proxy.proofs.AckCalls.{stay-late, stay-some}
 use borrow.Author.Needs.{needs}
 use Rattle.rtps_reader_proxy.proofs.acks.stay.Statement.{statement}

@@ -1,7 +1,7 @@
 -- `acknowledged` meets its contract. Assumes nothing.
 use Prim.Native.Nat.{ℕ, _≤_, _<_, _+_, _-_, max}
 use mathlib.Core.Path.{_≡_, refl, sym, ap, _∙_}
-use Rattle.rtps_reader_proxy.proofs.AckCalls.{stayable, joinable, acknowledged-is}
+use Rattle.rtps_reader_proxy.proofs.AckCalls.{stayable, acknowledged-is}
 use borrow.Author.Needs.{needs}
 use Rattle.rtps_reader_proxy.proofs.proxy.ReaderProxy.acknowledged.Statement.{statement}
 use Rattle.rtps_reader_proxy.proofs.proxy.ReaderProxy.acknowledged.Tie as tie
@@ -22,7 +22,7 @@ stay-requires : tie.Need-stay-requires
 stay-requires c κs = stayable (c .before .before .before .before .before .before .before .args .self) (c .before .before .before .before .before .before .before .args .unsent .now) (c .before .before .before .before .before .before .before .args .gaps .now) (c .before .before .before .before .before .before .before .args .set) (c .before .before .before .before .before .before .before .args .last) (c .before .before .before .before .before .before .before .pre)
 
 join-requires : tie.Need-join-requires
-join-requires c κs = joinable (c .before .before .before .before .before .before .before .before .before .before .before .args .self) (c .before .before .before .before .before .before .before .before .before .before .before .args .unsent .now) (c .before .before .before .before .before .before .before .before .before .before .before .args .gaps .now) (c .before .before .before .before .before .before .before .before .before .before .before .args .set) (c .before .before .before .before .before .before .before .before .before .before .before .args .last) (c .before .before .before .before .before .before .before .before .before .before .before .pre) (c .before .before .before .before .before .before .before .before .rank .result) (c .before .before .before .before .before .before .before .rank2 .result) (c .before .before .before .before .before .larger2 .result) (c .before .before .before .stay .result) (c .before .before .before .stay .last .0) (c .before .before .before .before .before .before .before .before .rank .ensures .is) (c .before .before .before .before .before .before .before .rank2 .ensures .is) (c .before .before .before .before .before .larger2 .ensures ∙ ap (max (c .before .before .before .before .before .before .before .before .rank .result)) (c .before .before .before .before .before .before .larger .ensures)) (c .before .before .before .stay .ensures)
+join-requires c κs = search needs
 
 keep-from-requires : tie.Need-keep-from-requires
 keep-from-requires c κs = search needs

@@ -1,0 +1,61 @@
+-- `replace` meets its contract. Assumes nothing.
+use native.Mathlib.Omega.{arith}
+use Rattle.number_sets.specs.Calls.{sequenceSet}
+use Rattle.number_sets.proofs.Meaning.{members-256}
+use Rattle.joined_runs.proofs.Laid.{replaced-total, replaced-room}
+use borrow.Author.Needs.{needs}
+use Rattle.joined_runs.proofs.replace.Statement.{statement}
+use Rattle.joined_runs.proofs.replace.Tie as tie
+
+size-requires : tie.Need-size-requires
+size-requires c κs = search needs
+
+resize-requires : tie.Need-resize-requires
+resize-requires c κs = let z = c .before .before .before in (z .pre .0, omega (arith, members-256 (sequenceSet (z .args .set)) (z .pre .1 .bits), c .before .size .ensures))
+
+mul-list-members : tie.Need-mul-list-members
+mul-list-members c = search needs
+
+sub-list-members : tie.Need-sub-list-members
+sub-list-members c = search needs
+
+part-list-members-start : tie.Need-part-list-members-start
+part-list-members-start c = search needs
+
+part-list-members-end : tie.Need-part-list-members-end
+part-list-members-end c = search needs
+
+list-members-requires : tie.Need-list-members-requires
+list-members-requires c κs = search needs
+
+add-result : tie.Need-add-result
+add-result c = let z = c .before .before .before .before .before .before .before .before .before .before in omega (arith, members-256 (sequenceSet (z .args .set)) (z .pre .1 .bits), c .before .before .before .before .before .before .before .before .size .ensures, z .pre .0 .rises, z .pre .0 .most, z .pre .0 .fits)
+
+sub-result : tie.Need-sub-result
+sub-result c = search needs
+
+add-result-2 : tie.Need-add-result-2
+add-result-2 c = let z = c .before .before .before .before .before .before .before .before .before .before in omega (arith, members-256 (sequenceSet (z .args .set)) (z .pre .1 .bits), c .before .before .before .before .before .before .before .before .size .ensures, z .pre .0 .rises, z .pre .0 .most, z .pre .0 .fits)
+
+same-length : tie.Need-same-length
+same-length c = search needs
+
+returns : tie.Need-returns
+returns c = let z = c .before .before .before .before .before .before .before .before .before .before in record { result = replaced-total (z .args .p) (z .args .q) (z .args .count) (z .args .s .now) (z .args .set) (z .pre .0) (z .pre .1) (c .before .before .before .before .before .before .before .before .size .result) (c .before .before .before .before .before .before .before .before .size .ensures); first = replaced-room (z .args .p) (z .args .q) (z .args .count) (z .args .s .now) (z .args .set) (z .pre .0) (z .pre .1) (c .before .before .before .before .before .before .before .before .size .result) (c .before .before .before .before .before .before .resize .result) (c .before .before .before .before .before .before .resize .last .0) (c .before .before .before .before .before .before .before .before .size .ensures) (c .before .before .before .before .before .before .resize .ensures) (c .before .before .list-members .result) (c .before .before .list-members .last .1 .0) (c .before .before .list-members .ensures) }
+
+pub replace-spec : {M : Type 1} → statement M
+replace-spec =
+    tie.close
+    (tie.spec
+    size-requires
+    resize-requires
+    mul-list-members
+    sub-list-members
+    part-list-members-start
+    part-list-members-end
+    list-members-requires
+    add-result
+    sub-result
+    add-result-2
+    same-length
+    returns)

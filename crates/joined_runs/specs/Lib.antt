@@ -1,0 +1,2 @@
+-- The definitions of `joined_runs`.
+pub mod Joined
