@@ -1,24 +1,12 @@
-// The input, line by line: the numbers of a line, in a lent room. All else in it is for people.
-ghost use Prim.Native.Nat.{_<_};
+// The input as numbers: each line is the place where the next one begins, and then its numbers. All else in it is for people.
+use crate::line::after;
 use crate::line::put;
 use crate::line::wide;
-use libc::STDIN_FILENO;
 
-// The bytes of the buffer from `at` up to before `end` are still to be taken.
-pub struct Input {
-    pub at: usize,
-    pub end: usize,
-}
-
-struct Byte {
-    byte: u8,
-    input: Input,
-}
-
-// How many numbers a line had, and where the input stands.
-pub struct Line {
-    pub count: usize,
-    pub input: Input,
+// Where the line that is being read begins, and where its next number goes.
+struct Place {
+    start: usize,
+    next: usize,
 }
 
 // A number that is being read.
@@ -27,36 +15,6 @@ struct Token {
     hex: bool,
     negative: bool,
     value: u64,
-}
-
-// A buffer that has been taken is filled again.
-fn refilled(buf: &mut [u8], input: Input) -> Input {
-    if input.at < input.end {
-        return input;
-    }
-    let got = libc::read(STDIN_FILENO, buf);
-    let end = io::count(got, buf);
-    Input { at: 0, end }
-}
-
-// The next byte of the input; past its end there is none, and a newline stands for it.
-fn next_byte(buf: &mut [u8], input: Input) -> Byte {
-    let now = refilled(buf, input);
-    let at = now.at;
-    let end = now.end;
-    let none = Byte {
-        byte: 10,
-        input: now,
-    };
-    if end <= at {
-        return none;
-    }
-    if buf.len() <= at {
-        return none;
-    }
-    let byte = buf[at];
-    let input = Input { at: at + 1, end };
-    Byte { byte, input }
 }
 
 // The worth of a digit; 16 for a byte that is none.
@@ -108,53 +66,46 @@ impl Token {
             value: grown(self.value, self.hex, d),
         }
     }
-
-    // A number below 0 is written as its two's complement.
-    fn number(self) -> u64 {
-        if self.negative {
-            return std::num::wrapping_sub_u64(0, self.value);
-        }
-        self.value
-    }
-
-    // The numbers of the line with this one, if the byte after it has come.
-    fn noted(self, line: &mut [u64], count: usize, d: u64) -> usize {
-        if self.started & (16 <= d) {
-            return put(line, count, self.number());
-        }
-        count
-    }
 }
 
-// How many bytes the line may still have.
-fn left_after(b: u8, left: u64) -> u64
-    requires { ⌜ 0 < left ⌝ }
-    ensures { λ r. ⌜ r < left ⌝ }
-{
+// The numbers of the line with this one, if the byte after it has come. One below 0 is written as its two's complement.
+fn noted(all: &mut [u64], next: usize, token: Token, d: u64) -> usize {
+    if !token.started | (d < 16) {
+        return next;
+    }
+    if token.negative {
+        return put(all, next, std::num::wrapping_sub_u64(0, token.value));
+    }
+    put(all, next, token.value)
+}
+
+// A newline ends the line.
+fn ended(all: &mut [u64], start: usize, next: usize, b: u8) -> Place {
     if b == 10 {
-        return 0;
+        put(all, start, next as u64);
+        return Place {
+            start: next,
+            next: after(next, 1),
+        };
     }
-    left - 1
+    Place { start, next }
 }
 
-pub(crate) fn read_line(buf: &mut [u8], line: &mut [u64], input: Input) -> Line {
-    let mut at = input;
+pub(crate) fn read_numbers(bytes: &[u8], all: &mut [u64]) {
     let mut token = Token {
         started: false,
         hex: false,
         negative: false,
         value: 0,
     };
-    let mut count = 0;
-    let mut left = 65536;
-    while 0 < left {
-        let next = next_byte(buf, at);
-        let b = next.byte;
+    let mut place = Place { start: 0, next: 1 };
+    let mut i = 0;
+    while i < bytes.len() {
+        let b = bytes[i];
         let d = digit(b, token.hex);
-        count = token.noted(line, count, d);
+        let next = noted(all, place.next, token, d);
+        place = ended(all, place.start, next, b);
         token = token.with(b, d);
-        at = next.input;
-        left = left_after(b, left);
+        i += 1;
     }
-    Line { count, input: at }
 }

@@ -1,12 +1,10 @@
-// The numbers of a line, by their places, and what was compared with them.
-use numbers::FragmentNumber;
+// The numbers of a line, by their places, and what is compared with them.
+//
+// What was compared is told by one place: that of the number that comes next, or DIFFERS, from which no place goes on.
 use numbers::SequenceNumber;
 
-// The place that comes next, and whether all before it was as the crate's.
-pub struct Seen {
-    pub at: usize,
-    pub same: bool,
-}
+// Something was not as the crate's: no list has so many numbers.
+pub(crate) const DIFFERS: usize = 131072;
 
 pub(crate) fn wide(b: u8) -> u64 {
     b as u64
@@ -33,36 +31,32 @@ pub(crate) fn put(line: &mut [u64], n: usize, x: u64) -> usize {
     n
 }
 
-// A place so much further on. No line has 65,536 numbers.
+// A place so much further on.
 pub(crate) fn after(i: usize, more: usize) -> usize {
-    if 65536 <= i {
+    if DIFFERS <= i {
         return i;
     }
-    if 65536 <= more {
+    if DIFFERS <= more {
         return more;
     }
     i + more
 }
 
-pub(crate) fn sum(a: u64, b: u64) -> u64 {
-    if 9223372036854775807 < a {
-        return a;
+// The numbers from a place on.
+pub(crate) fn rest(line: &[u64], i: usize) -> &[u64] {
+    if i <= line.len() {
+        return &line[i..];
     }
-    if 9223372036854775807 < b {
-        return b;
-    }
-    a + b
+    let none = 0;
+    &line[none..none]
 }
 
 // How many calls from the first on are as the crate's, once call i is compared.
 pub(crate) fn counted(same: u64, i: u64, all: bool) -> u64 {
-    if !all {
-        return same;
+    if all & (same == i) {
+        return std::num::wrapping_add_u64(same, 1);
     }
-    if same != i {
-        return same;
-    }
-    sum(same, 1)
+    same
 }
 
 // A signed number, from its two's complement.
@@ -80,35 +74,28 @@ pub(crate) fn half(line: &[u64], i: usize) -> u32 {
     (at(line, i) % 4294967296) as u32
 }
 
-pub(crate) fn fragment(line: &[u64], i: usize) -> FragmentNumber {
-    FragmentNumber(half(line, i))
-}
-
 // The eight words of a set.
-pub(crate) fn words_at(line: &[u64], i: usize) -> [u32; 8] {
-    let a = half(line, i);
-    let b = half(line, after(i, 1));
-    let c = half(line, after(i, 2));
-    let d = half(line, after(i, 3));
-    let e = half(line, after(i, 4));
-    let f = half(line, after(i, 5));
-    let g = half(line, after(i, 6));
-    let h = half(line, after(i, 7));
+pub(crate) fn words_of(line: &[u64]) -> [u32; 8] {
+    let a = half(line, 0);
+    let b = half(line, 1);
+    let c = half(line, 2);
+    let d = half(line, 3);
+    let e = half(line, 4);
+    let f = half(line, 5);
+    let g = half(line, 6);
+    let h = half(line, 7);
     [a, b, c, d, e, f, g, h]
 }
 
-impl Seen {
-    // All was as the crate's, and the line has no more than its `count` numbers.
-    pub(crate) fn is_all(self, count: usize) -> bool {
-        self.same & (self.at == count)
-    }
+// On from a place if what was compared there is the same.
+pub(crate) fn on(i: usize, same: bool) -> usize {
+    if same { i } else { DIFFERS }
+}
 
-    // The next number of the line is n.
-    pub(crate) fn expect(self, line: &[u64], n: u64) -> Seen {
-        let i = self.at;
-        Seen {
-            at: after(i, 1),
-            same: self.same & (at(line, i) == n),
-        }
+// The next number of the line is n.
+pub(crate) fn expect(line: &[u64], i: usize, n: u64) -> usize {
+    if at(line, i) == n {
+        return after(i, 1);
     }
+    DIFFERS
 }

@@ -4,6 +4,9 @@
 // pseudo-random numbers, each with all that the crate showed after it. `write_replay` (host/runs) made the calls on the crate and
 // wrote the list; host/check holds the committed list to what it writes today. Here each call is made on the library, and what the
 // library then shows is compared with the list: a line for each reader and each writer, and the first call that differs, if one does.
+ghost use mathlib.Core.Path.{_≡_};
+ghost use lib.ListN.{length};
+
 mod input;
 mod line;
 mod reader;
@@ -11,72 +14,82 @@ mod reader_shown;
 mod writer;
 mod writer_shown;
 
-use input::Input;
-use input::read_line;
+use input::read_numbers;
+use libc::STDIN_FILENO;
 use libc::STDOUT_FILENO;
+use line::after;
 use line::at;
-use line::sum;
+use line::rest;
 use reader::Replayed;
 
-// The line of a block: all its calls, or the first that differs.
+// A number, and what is said of it.
+fn say(n: u64, text: &[u8]) {
+    io::print_decimal(STDOUT_FILENO, n);
+    io::write_all(STDOUT_FILENO, text);
+}
+
+// All the calls of a block, or the first that differs.
 fn tell(same: u64, calls: u64) {
     if same == calls {
-        io::print_decimal(STDOUT_FILENO, calls);
-        io::write_all(STDOUT_FILENO, b" calls, as the crate\n");
+        say(calls, b" calls, as the crate\n");
         return;
     }
     io::write_all(STDOUT_FILENO, b"call ");
-    io::print_decimal(STDOUT_FILENO, sum(same, 1));
-    io::write_all(STDOUT_FILENO, b" is not as the crate\n");
-}
-
-fn name(of: u64, n: u64) {
-    if of == 0 {
-        io::write_all(STDOUT_FILENO, b"reader ");
-    } else {
-        io::write_all(STDOUT_FILENO, b"writer ");
-    }
-    io::print_decimal(STDOUT_FILENO, n);
-    io::write_all(STDOUT_FILENO, b": ");
+    say(
+        std::num::wrapping_add_u64(same, 1),
+        b" is not as the crate\n",
+    );
 }
 
 // A reader or a writer, with its calls.
-fn replay_block(buf: &mut [u8], line: &mut [u64], input: Input) -> Replayed {
-    let head = read_line(buf, line, input);
-    let kind = at(line, 0);
-    let calls = at(line, 2);
-    name(kind, at(line, 1));
-    if kind == 0 {
-        let done = reader::replay(buf, line, head.input);
-        tell(done.same, calls);
-        return done;
-    }
-    let done = writer::replay(buf, line, head.input);
-    tell(done.same, calls);
+fn replay_block(all: &[u64], place: usize) -> Replayed {
+    let head = rest(all, after(place, 1));
+    let first = at(all, place) as usize;
+    let done = if at(head, 0) == 0 {
+        io::write_all(STDOUT_FILENO, b"reader ");
+        reader::replay(all, head, first)
+    } else {
+        io::write_all(STDOUT_FILENO, b"writer ");
+        writer::replay(all, head, first)
+    };
+    say(at(head, 1), b": ");
+    tell(done.same, at(head, 2));
     done
 }
 
-fn run(buf: &mut [u8], line: &mut [u64]) {
-    let first = read_line(buf, line, Input { at: 0, end: 0 });
-    let blocks = at(line, 0);
-    let calls = at(line, 1);
-    let mut input = first.input;
+fn run(all: &[u64]) {
+    let blocks = at(all, 1);
+    let mut place = at(all, 0) as usize;
     let mut same = 0;
     let mut i = 0;
     while i < blocks {
-        let done = replay_block(buf, line, input);
-        input = done.input;
-        same = sum(same, done.same);
+        let done = replay_block(all, place);
+        place = done.next;
+        same = std::num::wrapping_add_u64(same, done.same);
         i += 1;
     }
-    io::print_decimal(STDOUT_FILENO, same);
-    io::write_all(STDOUT_FILENO, b" of ");
-    io::print_decimal(STDOUT_FILENO, calls);
-    io::write_all(STDOUT_FILENO, b" calls are as the crate's\n");
+    say(same, b" of ");
+    say(at(all, 2), b" calls are as the crate's\n");
+}
+
+// Room for the bytes of the list.
+fn bytes_room() -> [u8; 524288]
+    ensures { λ r. ⌜ 524288 ≡ length r ⌝ }
+{
+    [0; 524288]
+}
+
+// Room for its numbers.
+fn numbers_room() -> [u64; 65536]
+    ensures { λ r. ⌜ 65536 ≡ length r ⌝ }
+{
+    [0; 65536]
 }
 
 fn main() {
-    let mut buf = io::buffer();
-    let mut line = [0u64; 512];
-    run(&mut buf, &mut line);
+    let mut bytes = bytes_room();
+    let mut all = numbers_room();
+    io::read_full(STDIN_FILENO, &mut bytes);
+    read_numbers(&bytes, &mut all);
+    run(&all);
 }

@@ -1,114 +1,76 @@
 // What a reader record shows, against what the crate showed: all of it.
-use crate::line::Seen;
+use crate::line::DIFFERS;
 use crate::line::after;
 use crate::line::at;
 use crate::line::bit;
+use crate::line::expect;
 use crate::line::number;
+use crate::line::on;
+use crate::line::rest;
 use numbers::Answer;
 use numbers::Cursor;
 use numbers::NextNumber;
+use numbers::arith::smaller;
 use rtps_reader_proxy::ReaderProxy;
-use rtps_reader_proxy::fragments::NextFragRequested;
 
 // A walk through the unsent numbers, or the pending gap, beside the line.
 struct Walk {
     at: usize,
     from: u64,
-    same: bool,
 }
 
-// The next unsent number, or the next of the pending gap.
-fn next(head: ReaderProxy, unsent: &[u64], gaps: &[u64], gap: bool, from: u64) -> NextNumber {
+// The next unsent number, or the next of the pending gap, which stand in the room.
+fn next(head: ReaderProxy, room: &[u64], gap: bool, from: u64) -> NextNumber {
     if gap {
-        return head.next_pending_gap(gaps, Cursor { from });
+        return head.next_pending_gap(room, Cursor { from });
     }
-    head.next_unsent_change(unsent, Cursor { from })
+    head.next_unsent_change(room, Cursor { from })
 }
 
 // One run of the line, `a..b`: the next numbers are a, a + 1, .. up to before b.
-fn walk_run(
-    line: &[u64],
-    head: ReaderProxy,
-    unsent: &[u64],
-    gaps: &[u64],
-    gap: bool,
-    walk: Walk,
-) -> Walk {
+fn walk_run(line: &[u64], head: ReaderProxy, room: &[u64], gap: bool, walk: Walk) -> Walk {
     let end = at(line, after(walk.at, 1));
-    let past = after(walk.at, 2);
     let mut from = walk.from;
     let mut n = at(line, walk.at);
     while n < end {
-        let r = next(head, unsent, gaps, gap, from);
+        let r = next(head, room, gap, from);
         let cursor = r.cursor;
         from = cursor.from;
         if r.number.rank() != n {
-            return Walk {
-                at: past,
-                from,
-                same: false,
-            };
+            return Walk { at: DIFFERS, from };
         }
         n += 1;
     }
     Walk {
-        at: past,
+        at: after(walk.at, 2),
         from,
-        same: walk.same,
     }
 }
 
 // As many runs as the line says, and no number past them.
-fn walked(
-    line: &[u64],
-    head: ReaderProxy,
-    unsent: &[u64],
-    gaps: &[u64],
-    gap: bool,
-    seen: Seen,
-) -> Seen {
-    let runs = at(line, seen.at);
+fn walked(line: &[u64], head: ReaderProxy, room: &[u64], gap: bool, i: usize) -> usize {
+    let runs = at(line, i);
     let mut walk = Walk {
-        at: after(seen.at, 1),
+        at: after(i, 1),
         from: 0,
-        same: seen.same,
     };
     let mut k = 0;
     while k < runs {
-        walk = walk_run(line, head, unsent, gaps, gap, walk);
-        if !walk.same {
-            return Seen {
-                at: walk.at,
-                same: false,
-            };
+        walk = walk_run(line, head, room, gap, walk);
+        if DIFFERS <= walk.at {
+            return DIFFERS;
         }
         k += 1;
     }
-    let past = next(head, unsent, gaps, gap, walk.from);
-    let answer = past.answer;
-    Seen {
-        at: walk.at,
-        same: walk.same & (answer.number == Answer::NOTHING),
-    }
-}
-
-// The place of word k of entry s.
-fn word_place(s: usize, k: usize) -> usize {
-    if 16 <= s {
-        return 1024;
-    }
-    if 64 <= k {
-        return 1024;
-    }
-    s * 64 + k
+    let answer = next(head, room, gap, walk.from).answer;
+    on(walk.at, answer.number == Answer::NOTHING)
 }
 
 // The 64 words of an entry: those of the line, and zeros.
-fn entry_shown(line: &[u64], words: &[u64], s: usize, seen: Seen) -> Seen {
-    let i = seen.at;
+fn entry_shown(line: &[u64], words: &[u64], i: usize) -> usize {
     let count = at(line, i) as usize;
     let first = after(i, 1);
-    let mut same = seen.same;
+    let mut same = true;
     let mut k = 0;
     while k < 64 {
         let told = if k < count {
@@ -116,70 +78,69 @@ fn entry_shown(line: &[u64], words: &[u64], s: usize, seen: Seen) -> Seen {
         } else {
             0
         };
-        same = same & (at(words, word_place(s, k)) == told);
+        same = same & (at(words, k) == told);
         k += 1;
     }
-    Seen {
-        at: after(first, count),
-        same,
-    }
+    on(after(first, count), same)
 }
 
-// How many samples have requested fragments: 16 at most.
-fn samples_held(head: ReaderProxy) -> usize {
-    let n = head.frag_count;
-    if n < 16 { n } else { 16 }
-}
-
-// Every requested fragment, by sample.
-fn fragments_shown(
-    line: &[u64],
-    head: ReaderProxy,
-    samples: &[u64],
-    words: &[u64],
-    seen: Seen,
-) -> Seen {
-    let count = samples_held(head);
-    let mut now = seen.expect(line, count as u64);
+// Every requested fragment, by sample: 64 words for each.
+fn fragments_shown(line: &[u64], count: usize, samples: &[u64], words: &[u64], i: usize) -> usize {
+    let mut now = expect(line, i, count as u64);
+    let mut first = 0;
     let mut s = 0;
     while s < count {
-        now = now.expect(line, at(samples, s));
-        now = entry_shown(line, words, s, now);
+        now = expect(line, now, at(samples, s));
+        now = entry_shown(line, rest(words, first), now);
+        first = after(first, 64);
         s += 1;
     }
     now
 }
 
-fn fragment_shown(line: &[u64], next: NextFragRequested, seen: Seen) -> Seen {
-    let now = seen.expect(line, next.fragment.rank());
-    now.expect(line, next.sample.rank())
-}
-
-// The questions that start from a number: 0 stands for no answer in the line, as in the library.
-fn questions_shown(
+// The next requested fragment: 0 stands for no answer in the line, as in the library.
+fn fragment_shown(
     line: &[u64],
     head: ReaderProxy,
-    unsent: &[u64],
-    gaps: &[u64],
     samples: &[u64],
     words: &[u64],
-    seen: Seen,
-) -> Seen {
-    let from = number(line, seen.at).rank();
-    let mut now = Seen {
-        at: after(seen.at, 1),
-        same: seen.same,
-    };
-    now = now.expect(line, next(head, unsent, gaps, false, from).number.rank());
-    now = now.expect(line, next(head, unsent, gaps, true, from).number.rank());
-    let first = head.next_frag_requested(samples, words, Cursor { from: 0 });
-    now = fragment_shown(line, first, now);
-    let piece = at(line, now.at);
-    now = now.expect(line, piece);
-    let later = head.next_frag_requested(samples, words, Cursor { from: piece });
-    now = fragment_shown(line, later, now);
+    from: u64,
+    i: usize,
+) -> usize {
+    let r = head.next_frag_requested(samples, words, Cursor { from });
+    let now = expect(line, i, r.fragment.rank());
+    expect(line, now, r.sample.rank())
+}
+
+// The questions on requested fragments.
+fn pieces_shown(
+    line: &[u64],
+    head: ReaderProxy,
+    samples: &[u64],
+    words: &[u64],
+    i: usize,
+) -> usize {
+    let now = fragment_shown(line, head, samples, words, 0, i);
+    let piece = at(line, now);
+    let now = fragment_shown(line, head, samples, words, piece, after(now, 1));
     let any = head.repair_frags_requested(samples, words);
-    now.expect(line, bit(any.yes))
+    expect(line, now, bit(any.yes))
+}
+
+// What is acknowledged, and the first unsent number.
+fn first_shown(line: &[u64], head: ReaderProxy, unsent: &[u64], i: usize) -> usize {
+    let now = expect(line, i, head.all_acked_before.rank());
+    let first = head.first_unsent_change(unsent);
+    expect(line, now, first.number.rank())
+}
+
+// The next unsent number, and the next of the pending gap, from a number on.
+fn next_shown(line: &[u64], head: ReaderProxy, unsent: &[u64], gaps: &[u64], i: usize) -> usize {
+    let from = number(line, i).rank();
+    let first = next(head, unsent, false, from);
+    let now = expect(line, after(i, 1), first.number.rank());
+    let gap = next(head, gaps, true, from);
+    expect(line, now, gap.number.rank())
 }
 
 // The whole record.
@@ -190,12 +151,13 @@ pub(crate) fn shown(
     gaps: &[u64],
     samples: &[u64],
     words: &[u64],
-    seen: Seen,
-) -> Seen {
-    let mut now = seen.expect(line, head.all_acked_before.rank());
-    now = now.expect(line, head.first_unsent_change(unsent).number.rank());
-    now = walked(line, head, unsent, gaps, false, now);
-    now = walked(line, head, unsent, gaps, true, now);
-    now = fragments_shown(line, head, samples, words, now);
-    questions_shown(line, head, unsent, gaps, samples, words, now)
+    i: usize,
+) -> usize {
+    let now = first_shown(line, head, unsent, i);
+    let now = walked(line, head, unsent, false, now);
+    let now = walked(line, head, gaps, true, now);
+    let held = smaller(head.frag_count, 16);
+    let now = fragments_shown(line, held, samples, words, now);
+    let now = next_shown(line, head, unsent, gaps, now);
+    pieces_shown(line, head, samples, words, now)
 }

@@ -1,19 +1,21 @@
 // What a send buffer shows, against what the crate showed: all of it.
-use crate::line::Seen;
+use crate::line::DIFFERS;
 use crate::line::after;
 use crate::line::at;
 use crate::line::bit;
+use crate::line::expect;
 use crate::line::number;
+use crate::line::on;
 use crate::line::wide;
 use numbers::Answer;
 use writer_send_buffer::WriterSendBuffer;
 
 // The bytes of a sample: as many as the line says, and these.
-fn bytes_shown(line: &[u64], part: &[u8], seen: Seen) -> Seen {
-    let mut now = seen.expect(line, part.len() as u64);
+fn bytes_shown(line: &[u64], part: &[u8], i: usize) -> usize {
+    let mut now = expect(line, i, part.len() as u64);
     let mut k = 0;
     while k < part.len() {
-        now = now.expect(line, wide(part[k]));
+        now = expect(line, now, wide(part[k]));
         k += 1;
     }
     now
@@ -25,36 +27,47 @@ fn fetch_shown(
     flow: WriterSendBuffer,
     store: &[u8],
     lens: &[u64],
-    seen: Seen,
-) -> Seen {
-    let n = number(line, seen.at);
-    let found = flow.locate(store.len(), lens, n);
-    let answer = found.answer;
-    let there = answer.number == Answer::DONE;
-    let now = Seen {
-        at: after(seen.at, 1),
-        same: seen.same & (there | (answer.number == Answer::NOTHING)),
-    };
-    let now = now.expect(line, bit(there));
-    if !there {
-        return now;
+    i: usize,
+) -> usize {
+    let n = number(line, i);
+    let answer = flow.locate(store.len(), lens, n).answer;
+    let now = after(i, 1);
+    if answer.number == Answer::NOTHING {
+        return expect(line, now, 0);
     }
-    bytes_shown(line, flow.get_by_sn(store, lens, n), now)
+    if answer.number != Answer::DONE {
+        return DIFFERS;
+    }
+    bytes_shown(line, flow.get_by_sn(store, lens, n), expect(line, now, 1))
 }
 
-fn fetches_shown(
+// Whether all is acknowledged through a number.
+fn through_shown(line: &[u64], flow: WriterSendBuffer, i: usize) -> usize {
+    let told = flow.is_acked_through(number(line, i));
+    let answer = told.answer;
+    let now = on(after(i, 1), answer.number == Answer::DONE);
+    expect(line, now, bit(told.yes))
+}
+
+// As many fetches, or as many such questions, as the line says.
+fn each_shown(
     line: &[u64],
     flow: WriterSendBuffer,
     store: &[u8],
     lens: &[u64],
-    seen: Seen,
-) -> Seen {
-    let count = at(line, seen.at);
-    let mut now = seen.expect(line, count);
+    fetch: bool,
+    i: usize,
+) -> usize {
+    let count = at(line, i);
+    let mut now = after(i, 1);
     let mut k = 0;
     while k < count {
-        now = fetch_shown(line, flow, store, lens, now);
-        if !now.same {
+        now = if fetch {
+            fetch_shown(line, flow, store, lens, now)
+        } else {
+            through_shown(line, flow, now)
+        };
+        if DIFFERS <= now {
             return now;
         }
         k += 1;
@@ -62,29 +75,12 @@ fn fetches_shown(
     now
 }
 
-// Whether all is acknowledged through a number.
-fn through_shown(line: &[u64], flow: WriterSendBuffer, seen: Seen) -> Seen {
-    let told = flow.is_acked_through(number(line, seen.at));
-    let answer = told.answer;
-    let now = Seen {
-        at: after(seen.at, 1),
-        same: seen.same & (answer.number == Answer::DONE),
-    };
-    now.expect(line, bit(told.yes))
-}
-
-fn throughs_shown(line: &[u64], flow: WriterSendBuffer, seen: Seen) -> Seen {
-    let count = at(line, seen.at);
-    let mut now = seen.expect(line, count);
-    let mut k = 0;
-    while k < count {
-        now = through_shown(line, flow, now);
-        if !now.same {
-            return now;
-        }
-        k += 1;
-    }
-    now
+// The last number, and the first.
+fn ends_shown(line: &[u64], flow: WriterSendBuffer, i: usize) -> usize {
+    let last = flow.last_change_sequence_number();
+    let now = expect(line, i, last.number.rank());
+    let first = flow.first_change_sequence_number();
+    expect(line, now, first.number.rank())
 }
 
 // The whole buffer.
@@ -93,12 +89,9 @@ pub(crate) fn shown(
     flow: WriterSendBuffer,
     store: &[u8],
     lens: &[u64],
-    seen: Seen,
-) -> Seen {
-    let last = flow.last_change_sequence_number();
-    let first = flow.first_change_sequence_number();
-    let mut now = seen.expect(line, last.number.rank());
-    now = now.expect(line, first.number.rank());
-    now = fetches_shown(line, flow, store, lens, now);
-    throughs_shown(line, flow, now)
+    i: usize,
+) -> usize {
+    let now = ends_shown(line, flow, i);
+    let now = each_shown(line, flow, store, lens, true, now);
+    each_shown(line, flow, store, lens, false, now)
 }

@@ -1,6 +1,7 @@
 -- `replay_lines` is safe and ends. Assumes nothing.
 use Prim.Native.Nat.{_≤_, _-_}
-use mathlib.Core.Path.{_≡_, _∙_}
+use mathlib.Core.Path.{_≡_, sym}
+use lib.Seq.{length-take-le}
 use native.Mathlib.Omega.{arith}
 use borrow.Author.Needs.{needs}
 use lib.ListN.{length}
@@ -8,41 +9,57 @@ use Rattle.oracle_replay.proofs.reader.replay_lines.Statement.{statemen
 use Rattle.oracle_replay.proofs.reader.replay_lines.Tie as tie
 
 abbrev Inv-loop : tie.InvT-loop
-Inv-loop buf₀ room₀ calls unsent₀ gaps₀ samples₀ words₀ head₀ place₀ same₀ i₀ buf room unsent gaps samples words head place same i =
-    (i ≤ calls) × (length buf ≡ length buf₀) × (length room ≡ length room₀) × (length unsent ≡ length unsent₀) × (length gaps ≡ length gaps₀) × (length samples ≡ length samples₀) × (length words ≡ length words₀)
+Inv-loop all first calls cap unsent₀ gaps₀ samples₀ words₀ head₀ next₀ same₀ i₀ unsent gaps samples words head next same i =
+    (i ≤ calls) × (length unsent ≡ length unsent₀) × (length gaps ≡ length gaps₀) × (length samples ≡ length samples₀) × (length words ≡ length words₀)
 
 abbrev μ-loop : tie.MeasureT-loop
-μ-loop buf₀ room₀ calls unsent₀ gaps₀ samples₀ words₀ head₀ place₀ same₀ i₀ buf room unsent gaps samples words head place same i =
+μ-loop all first calls cap unsent₀ gaps₀ samples₀ words₀ head₀ next₀ same₀ i₀ unsent gaps samples words head next same i =
     calls - i
+
+new-requires : tie.Need-new-requires Inv-loop μ-loop
+new-requires c κs = search needs
+
+returns : tie.Need-returns Inv-loop μ-loop
+returns c = search needs
 
 loop-holds : tie.Need-loop-holds Inv-loop μ-loop
 loop-holds c = search needs
 
-read-line-requires : tie.Need-read-line-requires Inv-loop μ-loop
-read-line-requires c κs = search needs
+after-requires : tie.Need-after-requires Inv-loop μ-loop
+after-requires c κs = search needs
+
+at-requires : tie.Need-at-requires Inv-loop μ-loop
+at-requires c κs = search needs
+
+rest-requires : tie.Need-rest-requires Inv-loop μ-loop
+rest-requires c κs = search needs
+
+slice-relend-prefix-replay-line : tie.Need-slice-relend-prefix-replay-line Inv-loop μ-loop
+slice-relend-prefix-replay-line c = search needs
+
+slice-aggregate-replay-line : tie.Need-slice-aggregate-replay-line Inv-loop μ-loop
+slice-aggregate-replay-line c =
+    let l = c .before .before .before .before .before .loop in
+    sym (length-take-le (c .before .before .before .before .before .before .before .before .before .before .before .before .before .before .args .cap) (l .unsent) (omega (arith, l .inv .1, c .before .before .before .before .before .before .if1 .left)))
 
 replay-line-requires : tie.Need-replay-line-requires Inv-loop μ-loop
 replay-line-requires c κs = search needs
 
-is-all-requires : tie.Need-is-all-requires Inv-loop μ-loop
-is-all-requires c κs = search needs
+after-requires-2 : tie.Need-after-requires-2 Inv-loop μ-loop
+after-requires-2 c κs = search needs
 
 counted-requires : tie.Need-counted-requires Inv-loop μ-loop
 counted-requires c κs = search needs
 
 add-i : tie.Need-add-i Inv-loop μ-loop
-add-i c = omega (arith, c .before .before .before .before .before .before .before .before .before .before .before .before .before .before .before .before .before .before .before .before .before .before .before .before .before .before .loop-test .taken, c .before .before .before .before .before .before .before .before .before .before .before .before .before .before .before .before .before .before .before .before .before .before .before .before .before .before .before .before .before .before .before .before .before .before .fits .calls)
+add-i c =
+    omega (arith, c .before .before .before .before .before .before .before .before .before .before .before .before .before .before .before .before .before .before .before .loop-test .taken, c .before .before .before .before .before .before .before .before .before .before .before .before .before .before .before .before .before .before .before .before .before .before .before .before .before .before .before .before .before .fits .calls)
 
 loop-less : tie.Need-loop-less Inv-loop μ-loop
-loop-less c = omega (arith, c .before .before .before .before .before .before .before .before .before .before .before .before .before .before .before .before .before .before .before .before .before .before .before .before .before .before .loop-test .taken)
+loop-less c = search needs
 
 loop-again : tie.Need-loop-again Inv-loop μ-loop
-loop-again c =
-    let l = c .before .before .before .before .before .before .before .before .before .before .before .before .before .before .before .before .before .before .before .before .before .before .before .before .before .before .before .loop in
-    let t = c .before .before .before .before .before .before .before .before .before .before .before .before .before .before .before .before .before .before .before .before .before .before .before .before .before .before .loop-test .taken in
-    let r = c .before .before .before .before .before .before .before .before .before .before .before .before .before .before .before .before .before .before .before .before .before .before .before .read-line in
-    let m = c .before .before .before .before .before .before .before .before .before .before .before .before .replay-line in
-    (omega (arith, t), r .kept .0 ∙ l .inv .1, r .kept .1 .0 ∙ l .inv .2, m .kept .1 .1 .0 ∙ l .inv .3, m .kept .1 .1 .1 .0 ∙ l .inv .4, m .kept .1 .1 .1 .1 .0 ∙ l .inv .5, m .kept .1 .1 .1 .1 .1 .0 ∙ l .inv .6)
+loop-again c = search needs
 
 same-length : tie.Need-same-length Inv-loop μ-loop
 same-length c = search needs
@@ -56,14 +73,8 @@ same-length-3 c = search needs
 same-length-4 : tie.Need-same-length-4 Inv-loop μ-loop
 same-length-4 c = search needs
 
-same-length-5 : tie.Need-same-length-5 Inv-loop μ-loop
-same-length-5 c = search needs
-
-same-length-6 : tie.Need-same-length-6 Inv-loop μ-loop
-same-length-6 c = search needs
-
-returns : tie.Need-returns Inv-loop μ-loop
-returns c = search needs
+returns-2 : tie.Need-returns-2 Inv-loop μ-loop
+returns-2 c = search needs
 
 pub replay-lines-spec : {M : Type 1} → statement M
 replay-lines-spec =
@@ -71,10 +82,16 @@ replay-lines-spec =
     (tie.spec
     Inv-loop
     μ-loop
+    new-requires
+    returns
     loop-holds
-    read-line-requires
+    after-requires
+    at-requires
+    rest-requires
+    slice-relend-prefix-replay-line
+    slice-aggregate-replay-line
     replay-line-requires
-    is-all-requires
+    after-requires-2
     counted-requires
     add-i
     loop-less
@@ -83,6 +100,4 @@ replay-lines-spec =
     same-length-2
     same-length-3
     same-length-4
-    same-length-5
-    same-length-6
-    returns)
+    returns-2)

@@ -5,10 +5,10 @@ use Rattle.oracle_replay.proofs.reader_shown.entry_shown.Statement.{sta
 use Rattle.oracle_replay.proofs.reader_shown.entry_shown.Tie as tie
 
 abbrev Inv-loop : tie.InvT-loop
-Inv-loop line words s i count first same₀ k₀ same k = k ≤ 64
+Inv-loop line words i count first same₀ k₀ same k = k ≤ 64
 
 abbrev μ-loop : tie.MeasureT-loop
-μ-loop line words s i count first same₀ k₀ same k = 64 - k
+μ-loop line words i count first same₀ k₀ same k = 64 - k
 
 at-requires : tie.Need-at-requires Inv-loop μ-loop
 at-requires c κs = search needs
@@ -25,9 +25,6 @@ after-requires-2 c κs = search needs
 at-requires-2 : tie.Need-at-requires-2 Inv-loop μ-loop
 at-requires-2 c κs = search needs
 
-word-place-requires : tie.Need-word-place-requires Inv-loop μ-loop
-word-place-requires c κs = search needs
-
 at-requires-3 : tie.Need-at-requires-3 Inv-loop μ-loop
 at-requires-3 c κs = search needs
 
@@ -43,6 +40,9 @@ loop-again c = search needs
 after-requires-3 : tie.Need-after-requires-3 Inv-loop μ-loop
 after-requires-3 c κs = search needs
 
+on-requires : tie.Need-on-requires Inv-loop μ-loop
+on-requires c κs = search needs
+
 returns : tie.Need-returns Inv-loop μ-loop
 returns c = search needs
 
@@ -57,10 +57,10 @@ entry-shown-spec =
     loop-holds
     after-requires-2
     at-requires-2
-    word-place-requires
     at-requires-3
     add-k
     loop-less
     loop-again
     after-requires-3
+    on-requires
     returns)

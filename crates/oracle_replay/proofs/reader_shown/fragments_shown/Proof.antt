@@ -5,13 +5,10 @@ use Rattle.oracle_replay.proofs.reader_shown.fragments_shown.Statement.
 use Rattle.oracle_replay.proofs.reader_shown.fragments_shown.Tie as tie
 
 abbrev Inv-loop : tie.InvT-loop
-Inv-loop line samples words count now₀ s₀ now s = Unit {0}
+Inv-loop line count samples words i now₀ first₀ s₀ now first s = Unit {0}
 
 abbrev μ-loop : tie.MeasureT-loop
-μ-loop line samples words count now₀ s₀ now s = count - s
-
-samples-held-requires : tie.Need-samples-held-requires Inv-loop μ-loop
-samples-held-requires c κs = search needs
+μ-loop line count samples words i now₀ first₀ s₀ now first s = count - s
 
 expect-requires : tie.Need-expect-requires Inv-loop μ-loop
 expect-requires c κs = search needs
@@ -25,8 +22,14 @@ at-requires c κs = search needs
 expect-requires-2 : tie.Need-expect-requires-2 Inv-loop μ-loop
 expect-requires-2 c κs = search needs
 
+rest-requires : tie.Need-rest-requires Inv-loop μ-loop
+rest-requires c κs = search needs
+
 entry-shown-requires : tie.Need-entry-shown-requires Inv-loop μ-loop
 entry-shown-requires c κs = search needs
+
+after-requires : tie.Need-after-requires Inv-loop μ-loop
+after-requires c κs = search needs
 
 add-s : tie.Need-add-s Inv-loop μ-loop
 add-s c = search needs
@@ -46,12 +49,13 @@ fragments-shown-spec =
     (tie.spec
     Inv-loop
     μ-loop
-    samples-held-requires
     expect-requires
     loop-holds
     at-requires
     expect-requires-2
+    rest-requires
     entry-shown-requires
+    after-requires
     add-s
     loop-less
     loop-again

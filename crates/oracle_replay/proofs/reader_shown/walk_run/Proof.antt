@@ -5,19 +5,16 @@ use Rattle.oracle_replay.proofs.reader_shown.walk_run.Statement.{statem
 use Rattle.oracle_replay.proofs.reader_shown.walk_run.Tie as tie
 
 abbrev Inv-loop : tie.InvT-loop
-Inv-loop line head unsent gaps gap walk end past from₀ n₀ from n = Unit {0}
+Inv-loop line head room gap walk end from₀ n₀ from n = Unit {0}
 
 abbrev μ-loop : tie.MeasureT-loop
-μ-loop line head unsent gaps gap walk end past from₀ n₀ from n = end - n
+μ-loop line head room gap walk end from₀ n₀ from n = end - n
 
 after-requires : tie.Need-after-requires Inv-loop μ-loop
 after-requires c κs = search needs
 
 at-requires : tie.Need-at-requires Inv-loop μ-loop
 at-requires c κs = search needs
-
-after-requires-2 : tie.Need-after-requires-2 Inv-loop μ-loop
-after-requires-2 c κs = search needs
 
 at-requires-2 : tie.Need-at-requires-2 Inv-loop μ-loop
 at-requires-2 c κs = search needs
@@ -43,6 +40,9 @@ loop-less c = search needs
 loop-again : tie.Need-loop-again Inv-loop μ-loop
 loop-again c = search needs
 
+after-requires-2 : tie.Need-after-requires-2 Inv-loop μ-loop
+after-requires-2 c κs = search needs
+
 returns-2 : tie.Need-returns-2 Inv-loop μ-loop
 returns-2 c = search needs
 
@@ -54,7 +54,6 @@ walk-run-spec =
     μ-loop
     after-requires
     at-requires
-    after-requires-2
     at-requires-2
     loop-holds
     next-requires
@@ -63,4 +62,5 @@ walk-run-spec =
     add-n
     loop-less
     loop-again
+    after-requires-2
     returns-2)

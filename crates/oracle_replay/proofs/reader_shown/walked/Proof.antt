@@ -5,10 +5,10 @@ use Rattle.oracle_replay.proofs.reader_shown.walked.Statement.{statemen
 use Rattle.oracle_replay.proofs.reader_shown.walked.Tie as tie
 
 abbrev Inv-loop : tie.InvT-loop
-Inv-loop line head unsent gaps gap runs walk₀ k₀ walk k = Unit {0}
+Inv-loop line head room gap i runs walk₀ k₀ walk k = Unit {0}
 
 abbrev μ-loop : tie.MeasureT-loop
-μ-loop line head unsent gaps gap runs walk₀ k₀ walk k = runs - k
+μ-loop line head room gap i runs walk₀ k₀ walk k = runs - k
 
 at-requires : tie.Need-at-requires Inv-loop μ-loop
 at-requires c κs = search needs
@@ -37,6 +37,9 @@ loop-again c = search needs
 next-requires : tie.Need-next-requires Inv-loop μ-loop
 next-requires c κs = search needs
 
+on-requires : tie.Need-on-requires Inv-loop μ-loop
+on-requires c κs = search needs
+
 returns-2 : tie.Need-returns-2 Inv-loop μ-loop
 returns-2 c = search needs
 
@@ -55,4 +58,5 @@ walked-spec =
     loop-less
     loop-again
     next-requires
+    on-requires
     returns-2)

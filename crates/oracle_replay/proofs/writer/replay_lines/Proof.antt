@@ -1,6 +1,7 @@
 -- `replay_lines` is safe and ends. Assumes nothing.
 use Prim.Native.Nat.{_≤_, _-_}
-use mathlib.Core.Path.{_≡_, _∙_}
+use mathlib.Core.Path.{_≡_, sym}
+use lib.Seq.{length-take-le}
 use native.Mathlib.Omega.{arith}
 use borrow.Author.Needs.{needs}
 use lib.ListN.{length}
@@ -8,41 +9,64 @@ use Rattle.oracle_replay.proofs.writer.replay_lines.Statement.{statemen
 use Rattle.oracle_replay.proofs.writer.replay_lines.Tie as tie
 
 abbrev Inv-loop : tie.InvT-loop
-Inv-loop buf₀ room₀ calls store₀ lens₀ flow₀ place₀ same₀ i₀ buf room store lens flow place same i =
-    (i ≤ calls) × (length buf ≡ length buf₀) × (length room ≡ length room₀) × (length store ≡ length store₀) × (length lens ≡ length lens₀)
+Inv-loop all first calls size slots store₀ lens₀ flow₀ next₀ same₀ i₀ store lens flow next same i =
+    (i ≤ calls) × (length store ≡ length store₀) × (length lens ≡ length lens₀)
 
 abbrev μ-loop : tie.MeasureT-loop
-μ-loop buf₀ room₀ calls store₀ lens₀ flow₀ place₀ same₀ i₀ buf room store lens flow place same i =
-    calls - i
+μ-loop all first calls size slots store₀ lens₀ flow₀ next₀ same₀ i₀ store lens flow next same i = calls - i
+
+returns : tie.Need-returns Inv-loop μ-loop
+returns c = search needs
+
+returns-2 : tie.Need-returns-2 Inv-loop μ-loop
+returns-2 c = search needs
 
 loop-holds : tie.Need-loop-holds Inv-loop μ-loop
 loop-holds c = search needs
 
-read-line-requires : tie.Need-read-line-requires Inv-loop μ-loop
-read-line-requires c κs = search needs
+after-requires : tie.Need-after-requires Inv-loop μ-loop
+after-requires c κs = search needs
+
+at-requires : tie.Need-at-requires Inv-loop μ-loop
+at-requires c κs = search needs
+
+rest-requires : tie.Need-rest-requires Inv-loop μ-loop
+rest-requires c κs = search needs
+
+slice-relend-prefix-replay-line : tie.Need-slice-relend-prefix-replay-line Inv-loop μ-loop
+slice-relend-prefix-replay-line c = search needs
+
+slice-aggregate-replay-line : tie.Need-slice-aggregate-replay-line Inv-loop μ-loop
+slice-aggregate-replay-line c =
+    let l = c .before .before .before .before .before .loop in
+    sym (length-take-le (c .before .before .before .before .before .before .before .before .before .before .before .args .size) (l .store) (omega (arith, l .inv .1, c .before .before .before .before .before .before .before .if1 .left)))
+
+slice-relend-prefix-replay-line-2 : tie.Need-slice-relend-prefix-replay-line-2 Inv-loop μ-loop
+slice-relend-prefix-replay-line-2 c = search needs
+
+slice-aggregate-replay-line-2 : tie.Need-slice-aggregate-replay-line-2 Inv-loop μ-loop
+slice-aggregate-replay-line-2 c =
+    let l = c .before .before .before .before .before .before .loop in
+    sym (length-take-le (c .before .before .before .before .before .before .before .before .before .before .before .before .args .slots) (l .lens) (omega (arith, l .inv .2, c .before .before .before .before .before .before .before .if2 .left)))
 
 replay-line-requires : tie.Need-replay-line-requires Inv-loop μ-loop
 replay-line-requires c κs = search needs
 
-is-all-requires : tie.Need-is-all-requires Inv-loop μ-loop
-is-all-requires c κs = search needs
+after-requires-2 : tie.Need-after-requires-2 Inv-loop μ-loop
+after-requires-2 c κs = search needs
 
 counted-requires : tie.Need-counted-requires Inv-loop μ-loop
 counted-requires c κs = search needs
 
 add-i : tie.Need-add-i Inv-loop μ-loop
-add-i c = omega (arith, c .before .before .before .before .before .before .before .before .before .before .before .before .before .before .before .before .before .before .before .before .loop-test .taken, c .before .before .before .before .before .before .before .before .before .before .before .before .before .before .before .before .before .before .before .before .before .before .before .before .before .before .fits .calls)
+add-i c =
+    omega (arith, c .before .before .before .before .before .before .before .before .before .before .before .before .before .loop-test .taken, c .before .before .before .before .before .before .before .before .before .before .before .before .before .before .before .before .before .before .before .before .fits .calls)
 
 loop-less : tie.Need-loop-less Inv-loop μ-loop
-loop-less c = omega (arith, c .before .before .before .before .before .before .before .before .before .before .before .before .before .before .before .before .before .before .before .before .loop-test .taken)
+loop-less c = search needs
 
 loop-again : tie.Need-loop-again Inv-loop μ-loop
-loop-again c =
-    let l = c .before .before .before .before .before .before .before .before .before .before .before .before .before .before .before .before .before .before .before .before .before .loop in
-    let t = c .before .before .before .before .before .before .before .before .before .before .before .before .before .before .before .before .before .before .before .before .loop-test .taken in
-    let r = c .before .before .before .before .before .before .before .before .before .before .before .before .before .before .before .before .before .read-line in
-    let m = c .before .before .before .before .before .before .before .before .replay-line in
-    (omega (arith, t), r .kept .0 ∙ l .inv .1, r .kept .1 .0 ∙ l .inv .2, m .kept .1 .1 .0 ∙ l .inv .3, m .kept .1 .1 .1 .0 ∙ l .inv .4)
+loop-again c = search needs
 
 same-length : tie.Need-same-length Inv-loop μ-loop
 same-length c = search needs
@@ -50,14 +74,8 @@ same-length c = search needs
 same-length-2 : tie.Need-same-length-2 Inv-loop μ-loop
 same-length-2 c = search needs
 
-same-length-3 : tie.Need-same-length-3 Inv-loop μ-loop
-same-length-3 c = search needs
-
-same-length-4 : tie.Need-same-length-4 Inv-loop μ-loop
-same-length-4 c = search needs
-
-returns : tie.Need-returns Inv-loop μ-loop
-returns c = search needs
+returns-3 : tie.Need-returns-3 Inv-loop μ-loop
+returns-3 c = search needs
 
 pub replay-lines-spec : {M : Type 1} → statement M
 replay-lines-spec =
@@ -65,16 +83,22 @@ replay-lines-spec =
     (tie.spec
     Inv-loop
     μ-loop
+    returns
+    returns-2
     loop-holds
-    read-line-requires
+    after-requires
+    at-requires
+    rest-requires
+    slice-relend-prefix-replay-line
+    slice-aggregate-replay-line
+    slice-relend-prefix-replay-line-2
+    slice-aggregate-replay-line-2
     replay-line-requires
-    is-all-requires
+    after-requires-2
     counted-requires
     add-i
     loop-less
     loop-again
     same-length
     same-length-2
-    same-length-3
-    same-length-4
-    returns)
+    returns-3)

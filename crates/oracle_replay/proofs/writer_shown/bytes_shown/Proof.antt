@@ -6,10 +6,10 @@ use Rattle.oracle_replay.proofs.writer_shown.bytes_shown.Statement.{sta
 use Rattle.oracle_replay.proofs.writer_shown.bytes_shown.Tie as tie
 
 abbrev Inv-loop : tie.InvT-loop
-Inv-loop line part now₀ k₀ now k = k ≤ length part
+Inv-loop line part i now₀ k₀ now k = k ≤ length part
 
 abbrev μ-loop : tie.MeasureT-loop
-μ-loop line part now₀ k₀ now k = length part - k
+μ-loop line part i now₀ k₀ now k = length part - k
 
 expect-requires : tie.Need-expect-requires Inv-loop μ-loop
 expect-requires c κs = search needs

@@ -1,23 +1,26 @@
--- `throughs_shown` is safe and ends. Assumes nothing.
+-- `each_shown` is safe and ends. Assumes nothing.
 use Prim.Native.Nat.{_-_}
 use borrow.Author.Needs.{needs}
-use Rattle.oracle_replay.proofs.writer_shown.throughs_shown.Statement.{statement}
-use Rattle.oracle_replay.proofs.writer_shown.throughs_shown.Tie as tie
+use Rattle.oracle_replay.proofs.writer_shown.each_shown.Statement.{statement}
+use Rattle.oracle_replay.proofs.writer_shown.each_shown.Tie as tie
 
 abbrev Inv-loop : tie.InvT-loop
-Inv-loop line flow count now₀ k₀ now k = Unit {0}
+Inv-loop line flow store lens fetch i count now₀ k₀ now k = Unit {0}
 
 abbrev μ-loop : tie.MeasureT-loop
-μ-loop line flow count now₀ k₀ now k = count - k
+μ-loop line flow store lens fetch i count now₀ k₀ now k = count - k
 
 at-requires : tie.Need-at-requires Inv-loop μ-loop
 at-requires c κs = search needs
 
-expect-requires : tie.Need-expect-requires Inv-loop μ-loop
-expect-requires c κs = search needs
+after-requires : tie.Need-after-requires Inv-loop μ-loop
+after-requires c κs = search needs
 
 loop-holds : tie.Need-loop-holds Inv-loop μ-loop
 loop-holds c = search needs
+
+fetch-shown-requires : tie.Need-fetch-shown-requires Inv-loop μ-loop
+fetch-shown-requires c κs = search needs
 
 through-shown-requires : tie.Need-through-shown-requires Inv-loop μ-loop
 through-shown-requires c κs = search needs
@@ -37,15 +40,16 @@ loop-again c = search needs
 returns-2 : tie.Need-returns-2 Inv-loop μ-loop
 returns-2 c = search needs
 
-pub throughs-shown-spec : {M : Type 1} → statement M
-throughs-shown-spec =
+pub each-shown-spec : {M : Type 1} → statement M
+each-shown-spec =
     tie.close
     (tie.spec
     Inv-loop
     μ-loop
     at-requires
-    expect-requires
+    after-requires
     loop-holds
+    fetch-shown-requires
     through-shown-requires
     returns
     add-k
