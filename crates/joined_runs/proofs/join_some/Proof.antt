@@ -39,10 +39,16 @@ place-requires-2 : tie.Need-place-requires-2
 place-requires-2 c κs = search needs
 
 add-q : tie.Need-add-q
-add-q c = let z = c .before .before .before .before .before .before .before in omega (arith, joined-within (z .args .count) (z .args .s .now) (z .args .set) (c .before .before .before .before .before .rank .result) (c .before .before .before .place .result) (c .place2 .result) (c .before .before .before .place .result + c .place2 .result) (z .pre .0) (z .pre .1) (c .before .before .before .before .before .rank .ensures .is) (c .before .before .before .place .ensures) (c .place2 .ensures) refl .most, z .pre .0)
+add-q c =
+    let rank = c .before .before .before .before .before .rank in
+    let place = c .before .before .before .place in
+    let z = c .before .before .before .before .before .before .before in omega (arith, joined-within (z .args .count) (z .args .s .now) (z .args .set) (rank .result) (place .result) (c .place2 .result) (place .result + c .place2 .result) (z .pre .0) (z .pre .1) (rank .ensures .is) (place .ensures) (c .place2 .ensures) refl .most, z .pre .0)
 
 mul-joined : tie.Need-mul-joined
-mul-joined c = let z = c .before .before .before .before .before .before .before in omega (arith, joined-within (z .args .count) (z .args .s .now) (z .args .set) (c .before .before .before .before .before .rank .result) (c .before .before .before .place .result) (c .place2 .result) (c .before .before .before .place .result + c .place2 .result) (z .pre .0) (z .pre .1) (c .before .before .before .before .before .rank .ensures .is) (c .before .before .before .place .ensures) (c .place2 .ensures) refl .most, z .pre .0)
+mul-joined c =
+    let rank = c .before .before .before .before .before .rank in
+    let place = c .before .before .before .place in
+    let z = c .before .before .before .before .before .before .before in omega (arith, joined-within (z .args .count) (z .args .s .now) (z .args .set) (rank .result) (place .result) (c .place2 .result) (place .result + c .place2 .result) (z .pre .0) (z .pre .1) (rank .ensures .is) (place .ensures) (c .place2 .ensures) refl .most, z .pre .0)
 
 sub-joined : tie.Need-sub-joined
 sub-joined c = search needs
@@ -51,19 +57,34 @@ part-joined-start : tie.Need-part-joined-start
 part-joined-start c = search needs
 
 part-joined-end : tie.Need-part-joined-end
-part-joined-end c = let z = c .before .before .before .before .before .before .before .before in omega (arith, joined-within (z .args .count) (z .args .s .now) (z .args .set) (c .before .before .before .before .before .before .rank .result) (c .before .before .before .before .place .result) (c .before .place2 .result) (c .before .before .before .before .place .result + c .before .place2 .result) (z .pre .0) (z .pre .1) (c .before .before .before .before .before .before .rank .ensures .is) (c .before .before .before .before .place .ensures) (c .before .place2 .ensures) refl .most, z .pre .0)
+part-joined-end c =
+    let rank = c .before .before .before .before .before .before .rank in
+    let place = c .before .before .before .before .place in
+    let place2 = c .before .place2 in
+    let z = c .before .before .before .before .before .before .before .before in omega (arith, joined-within (z .args .count) (z .args .s .now) (z .args .set) (rank .result) (place .result) (place2 .result) (place .result + place2 .result) (z .pre .0) (z .pre .1) (rank .ensures .is) (place .ensures) (place2 .ensures) refl .most, z .pre .0)
 
 joined-requires : tie.Need-joined-requires
 joined-requires c κs = search needs
 
 replace-requires : tie.Need-replace-requires
-replace-requires c κs = let z = c .before .before .before .before .before .before .before .before .before .before .before in (joined-within (z .args .count) (z .args .s .now) (z .args .set) (c .before .before .before .before .before .before .before .before .before .rank .result) (c .before .before .before .before .before .before .before .place .result) (c .before .before .before .before .place2 .result) (c .before .before .before .before .before .before .before .place .result + c .before .before .before .before .place2 .result) (z .pre .0) (z .pre .1) (c .before .before .before .before .before .before .before .before .before .rank .ensures .is) (c .before .before .before .before .before .before .before .place .ensures) (c .before .before .before .before .place2 .ensures) refl, joined-listable (z .args .count) (z .args .s .now) (z .args .set) (c .before .before .before .before .before .before .before .before .before .rank .result) (c .before .before .before .before .before .before .before .place .result) (c .before .before .before .before .place2 .result) (c .before .before .before .before .before .before .before .place .result + c .before .before .before .before .place2 .result) (z .pre .0) (z .pre .1) (c .before .before .before .before .before .before .before .before .before .rank .ensures .is) (c .before .before .before .before .before .before .before .place .ensures) (c .before .before .before .before .place2 .ensures) refl (c .before .joined .result) (c .before .joined .ensures))
+replace-requires c κs =
+    let rank = c .before .before .before .before .before .before .before .before .before .rank in
+    let place = c .before .before .before .before .before .before .before .place in
+    let place2 = c .before .before .before .before .place2 in
+    let joined = c .before .joined in
+    let z = c .before .before .before .before .before .before .before .before .before .before .before in (joined-within (z .args .count) (z .args .s .now) (z .args .set) (rank .result) (place .result) (place2 .result) (place .result + place2 .result) (z .pre .0) (z .pre .1) (rank .ensures .is) (place .ensures) (place2 .ensures) refl, joined-listable (z .args .count) (z .args .s .now) (z .args .set) (rank .result) (place .result) (place2 .result) (place .result + place2 .result) (z .pre .0) (z .pre .1) (rank .ensures .is) (place .ensures) (place2 .ensures) refl (joined .result) (joined .ensures))
 
 same-length : tie.Need-same-length
 same-length c = search needs
 
 returns : tie.Need-returns
-returns c = let z = c .before .before .before .before .before .before .before .before .before .before .before .before .before .before in joined-some (z .args .count) (z .args .s .now) (z .args .set) (c .before .before .before .before .before .before .before .before .before .before .before .before .rank .result) (c .before .before .before .before .before .before .before .before .before .before .place .result) (c .before .before .before .before .before .before .before .place2 .result) (c .before .before .before .before .before .before .before .before .before .before .place .result + c .before .before .before .before .before .before .before .place2 .result) (z .pre .0) (z .pre .1) (c .before .before .before .before .before .before .before .before .before .before .before .before .rank .ensures .is) (c .before .before .before .before .before .before .before .before .before .before .place .ensures) (c .before .before .before .before .before .before .before .place2 .ensures) refl (c .before .before .before .before .joined .result) (c .before .before .before .before .joined .ensures) (c .before .before .replace .result) (c .before .before .replace .last .0) (c .before .before .replace .ensures)
+returns c =
+    let rank = c .before .before .before .before .before .before .before .before .before .before .before .before .rank in
+    let place = c .before .before .before .before .before .before .before .before .before .before .place in
+    let place2 = c .before .before .before .before .before .before .before .place2 in
+    let joined = c .before .before .before .before .joined in
+    let replace = c .before .before .replace in
+    let z = c .before .before .before .before .before .before .before .before .before .before .before .before .before .before in joined-some (z .args .count) (z .args .s .now) (z .args .set) (rank .result) (place .result) (place2 .result) (place .result + place2 .result) (z .pre .0) (z .pre .1) (rank .ensures .is) (place .ensures) (place2 .ensures) refl (joined .result) (joined .ensures) (replace .result) (replace .last .0) (replace .ensures)
 
 pub join-some-spec : {M : Type 1} → statement M
 join-some-spec =

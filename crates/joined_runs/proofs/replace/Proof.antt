@@ -41,7 +41,11 @@ same-length : tie.Need-same-length
 same-length c = search needs
 
 returns : tie.Need-returns
-returns c = let z = c .before .before .before .before .before .before .before .before .before .before in record { result = replaced-total (z .args .p) (z .args .q) (z .args .count) (z .args .s .now) (z .args .set) (z .pre .0) (z .pre .1) (c .before .before .before .before .before .before .before .before .size .result) (c .before .before .before .before .before .before .before .before .size .ensures); first = replaced-room (z .args .p) (z .args .q) (z .args .count) (z .args .s .now) (z .args .set) (z .pre .0) (z .pre .1) (c .before .before .before .before .before .before .before .before .size .result) (c .before .before .before .before .before .before .resize .result) (c .before .before .before .before .before .before .resize .last .0) (c .before .before .before .before .before .before .before .before .size .ensures) (c .before .before .before .before .before .before .resize .ensures) (c .before .before .list-members .result) (c .before .before .list-members .last .1 .0) (c .before .before .list-members .ensures) }
+returns c =
+    let size = c .before .before .before .before .before .before .before .before .size in
+    let resize = c .before .before .before .before .before .before .resize in
+    let list-members = c .before .before .list-members in
+    let z = c .before .before .before .before .before .before .before .before .before .before in record { result = replaced-total (z .args .p) (z .args .q) (z .args .count) (z .args .s .now) (z .args .set) (z .pre .0) (z .pre .1) (size .result) (size .ensures); first = replaced-room (z .args .p) (z .args .q) (z .args .count) (z .args .s .now) (z .args .set) (z .pre .0) (z .pre .1) (size .result) (resize .result) (resize .last .0) (size .ensures) (resize .ensures) (list-members .result) (list-members .last .1 .0) (list-members .ensures) }
 
 pub replace-spec : {M : Type 1} → statement M
 replace-spec =

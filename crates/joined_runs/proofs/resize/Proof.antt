@@ -29,7 +29,10 @@ same-length-2 : tie.Need-same-length-2
 same-length-2 c = search needs
 
 returns-2 : tie.Need-returns-2
-returns-2 c = let z = c .before .before .before .before .before .before in resize-open (z .args .p) (z .args .q) (z .args .count) (z .args .n) (z .args .s .now) (z .pre .0) (c .before .before .before .before .if1 .left) (c .before .before .«open» .result) (c .before .before .«open» .last .0) (c .before .before .«open» .ensures)
+returns-2 c =
+    let if1 = c .before .before .before .before .if1 in
+    let «open» = c .before .before .«open» in
+    let z = c .before .before .before .before .before .before in resize-open (z .args .p) (z .args .q) (z .args .count) (z .args .n) (z .args .s .now) (z .pre .0) (if1 .left) («open» .result) («open» .last .0) («open» .ensures)
 
 pub resize-spec : {M : Type 1} → statement M
 resize-spec =

@@ -25,15 +25,29 @@ put-nowhere-requires c κs = search needs
 
 returns : tie.Need-returns
 returns c =
-    let s = c .before .before .before .before .before .before .before .before .args .s in
-    let q : c .before .before .before .list-answer .result ≡ answerOf (listed false (isWhole s) (negative (s .ask .acked)) (notKnown s) false) = c .before .before .before .list-answer .ensures ∙ (λ i. answerOf (listed false (c .before .before .before .before .before .before .is-whole .ensures i) (c .before .before .before .before .is-negative .ensures i) (notKnown s) false)) in
-    rw (c .put-nowhere .ensures) (is-refused {A = Put} (listed false (isWhole s) (negative (s .ask .acked)) (notKnown s) false) (c .before .before .before .list-answer .result) q (nowhere) (record { answer = done; at = s .at; head = record { id = s .ask .id; reliable = s .head .reliable; acked = s .ask .acked } }) (c .before .if1 .taken))
+    let args = c .before .before .before .before .before .before .before .before .args in
+    let is-whole = c .before .before .before .before .before .before .is-whole in
+    let is-negative = c .before .before .before .before .is-negative in
+    let list-answer = c .before .before .before .list-answer in
+    let if1 = c .before .if1 in
+    let s = args .s in
+    let q : list-answer .result ≡ answerOf (listed false (isWhole s) (negative (s .ask .acked)) (notKnown s) false) = list-answer .ensures
+    ∙ (λ i. answerOf (listed false (is-whole .ensures i) (is-negative .ensures i) (notKnown s) false)) in
+    rw (c .put-nowhere .ensures) (is-refused {A = Put} (listed false (isWhole s) (negative (s .ask .acked)) (notKnown s) false) (list-answer .result) q (nowhere)
+    (record { answer = done; at = s .at; head = record { id = s .ask .id; reliable = s .head .reliable; acked = s .ask .acked } }) (if1 .taken))
 
 returns-2 : tie.Need-returns-2
 returns-2 c =
-    let s = c .before .before .before .before .before .before .before .before .args .s in
-    let q : c .before .before .before .list-answer .result ≡ answerOf (listed false (isWhole s) (negative (s .ask .acked)) (notKnown s) false) = c .before .before .before .list-answer .ensures ∙ (λ i. answerOf (listed false (c .before .before .before .before .before .before .is-whole .ensures i) (c .before .before .before .before .is-negative .ensures i) (notKnown s) false)) in
-    rw (done-is (c .before .before .before .list-answer .result) (c .before .if1 .left)) (is-done {A = Put} (listed false (isWhole s) (negative (s .ask .acked)) (notKnown s) false) (c .before .before .before .list-answer .result) q (nowhere) (record { answer = done; at = s .at; head = record { id = s .ask .id; reliable = s .head .reliable; acked = s .ask .acked } }) (c .before .if1 .left))
+    let args = c .before .before .before .before .before .before .before .before .args in
+    let is-whole = c .before .before .before .before .before .before .is-whole in
+    let is-negative = c .before .before .before .before .is-negative in
+    let list-answer = c .before .before .before .list-answer in
+    let if1 = c .before .if1 in
+    let s = args .s in
+    let q : list-answer .result ≡ answerOf (listed false (isWhole s) (negative (s .ask .acked)) (notKnown s) false) = list-answer .ensures
+    ∙ (λ i. answerOf (listed false (is-whole .ensures i) (is-negative .ensures i) (notKnown s) false)) in
+    rw (done-is (list-answer .result) (if1 .left)) (is-done {A = Put} (listed false (isWhole s) (negative (s .ask .acked)) (notKnown s) false) (list-answer .result) q (nowhere)
+    (record { answer = done; at = s .at; head = record { id = s .ask .id; reliable = s .head .reliable; acked = s .ask .acked } }) (if1 .left))
 
 pub acked-end-spec : {M : Type 1} → statement M
 acked-end-spec =

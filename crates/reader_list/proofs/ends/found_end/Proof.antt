@@ -27,9 +27,14 @@ returns c =
 
 returns-2 : tie.Need-returns-2
 returns-2 c =
-    let s = c .before .before .before .before .before .before .args .s in
-    let q : c .before .before .before .list-answer .result ≡ answerOf (listed false (isWhole s) false (notKnown s) false) = c .before .before .before .list-answer .ensures ∙ ap (λ (b : Bool). answerOf (listed false b false (notKnown s) false)) (c .before .before .before .before .is-whole .ensures) in
-    rw (done-is (c .before .before .before .list-answer .result) (c .before .if1 .left)) (is-done {A = Found} (listed false (isWhole s) false (notKnown s) false) (c .before .before .before .list-answer .result) q (λ no. record { answer = no; place = 0; head = freeSlot }) (record { answer = done; place = s .at; head = s .head }) (c .before .if1 .left))
+    let args = c .before .before .before .before .before .before .args in
+    let is-whole = c .before .before .before .before .is-whole in
+    let list-answer = c .before .before .before .list-answer in
+    let if1 = c .before .if1 in
+    let s = args .s in
+    let q : list-answer .result ≡ answerOf (listed false (isWhole s) false (notKnown s) false) = list-answer .ensures ∙ ap (λ (b : Bool). answerOf (listed false b false (notKnown s) false)) (is-whole .ensures) in
+    rw (done-is (list-answer .result) (if1 .left)) (is-done {A = Found} (listed false (isWhole s) false (notKnown s) false) (list-answer .result) q (λ no. record { answer = no; place = 0; head = freeSlot })
+    (record { answer = done; place = s .at; head = s .head }) (if1 .left))
 
 pub found-end-spec : {M : Type 1} → statement M
 found-end-spec =

@@ -30,9 +30,14 @@ from-rank-requires-2 c κs = search needs
 
 returns-2 : tie.Need-returns-2
 returns-2 c =
-    let s = c .before .before .before .before .before .args .s in
-    let q : c .before .before .before .list-answer .result ≡ answerOf (listed false (isWhole s) false false false) = c .before .before .before .list-answer .ensures ∙ ap (λ (b : Bool). answerOf (listed false b false false false)) (c .before .before .before .before .is-whole .ensures) in
-    rw (done-is (c .before .before .before .list-answer .result) (c .before .if1 .left), c .from-rank2 .ensures) (is-done {A = Front} (listed false (isWhole s) false false false) (c .before .before .before .list-answer .result) q (λ no. record { answer = no; frontier = frontierAt 0 }) (record { answer = done; frontier = frontierAt (s .front) }) (c .before .if1 .left))
+    let args = c .before .before .before .before .before .args in
+    let is-whole = c .before .before .before .before .is-whole in
+    let list-answer = c .before .before .before .list-answer in
+    let if1 = c .before .if1 in
+    let s = args .s in
+    let q : list-answer .result ≡ answerOf (listed false (isWhole s) false false false) = list-answer .ensures ∙ ap (λ (b : Bool). answerOf (listed false b false false false)) (is-whole .ensures) in
+    rw (done-is (list-answer .result) (if1 .left), c .from-rank2 .ensures)
+    (is-done {A = Front} (listed false (isWhole s) false false false) (list-answer .result) q (λ no. record { answer = no; frontier = frontierAt 0 }) (record { answer = done; frontier = frontierAt (s .front) }) (if1 .left))
 
 pub front-end-spec : {M : Type 1} → statement M
 front-end-spec =

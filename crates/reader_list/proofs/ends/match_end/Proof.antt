@@ -23,18 +23,31 @@ put-nowhere-requires c κs = search needs
 
 returns : tie.Need-returns
 returns c =
-    let s = c .before .before .before .before .before .before .args .s in
-    let q : c .before .before .before .list-answer .result ≡ answerOf (listed (not (capAllowed (s .ask .cap))) (isWhole s) false (eqb (s .ask .id) 0 || isFound s) (not (hasFree s))) = c .before .before .before .list-answer .ensures ∙ ap (λ (b : Bool). answerOf (listed (not (capAllowed (s .ask .cap))) b false (eqb (s .ask .id) 0 || isFound s) (not (hasFree s)))) (c .before .before .before .before .is-whole .ensures) in
-    rw (c .put-nowhere .ensures) (is-refused {A = Put} (listed (not (capAllowed (s .ask .cap))) (isWhole s) false (eqb (s .ask .id) 0 || isFound s) (not (hasFree s))) (c .before .before .before .list-answer .result) q (nowhere) (record { answer = done; at = s .free; head = record { id = s .ask .id; reliable = s .ask .reliable; acked = numberAt 0 } }) (c .before .if1 .taken))
+    let args = c .before .before .before .before .before .before .args in
+    let is-whole = c .before .before .before .before .is-whole in
+    let list-answer = c .before .before .before .list-answer in
+    let if1 = c .before .if1 in
+    let s = args .s in
+    let q : list-answer .result ≡ answerOf (listed (not (capAllowed (s .ask .cap))) (isWhole s) false (eqb (s .ask .id) 0 || isFound s) (not (hasFree s))) = list-answer .ensures ∙ ap
+    (λ (b : Bool). answerOf (listed (not (capAllowed (s .ask .cap))) b false (eqb (s .ask .id) 0 || isFound s) (not (hasFree s)))) (is-whole .ensures) in
+    rw (c .put-nowhere .ensures) (is-refused {A = Put} (listed (not (capAllowed (s .ask .cap))) (isWhole s) false (eqb (s .ask .id) 0 || isFound s) (not (hasFree s))) (list-answer .result) q (nowhere)
+    (record { answer = done; at = s .free; head = record { id = s .ask .id; reliable = s .ask .reliable; acked = numberAt 0 } }) (if1 .taken))
 
 from-rank-requires : tie.Need-from-rank-requires
 from-rank-requires c κs = search needs
 
 returns-2 : tie.Need-returns-2
 returns-2 c =
-    let s = c .before .before .before .before .before .before .args .s in
-    let q : c .before .before .before .list-answer .result ≡ answerOf (listed (not (capAllowed (s .ask .cap))) (isWhole s) false (eqb (s .ask .id) 0 || isFound s) (not (hasFree s))) = c .before .before .before .list-answer .ensures ∙ ap (λ (b : Bool). answerOf (listed (not (capAllowed (s .ask .cap))) b false (eqb (s .ask .id) 0 || isFound s) (not (hasFree s)))) (c .before .before .before .before .is-whole .ensures) in
-    rw (done-is (c .before .before .before .list-answer .result) (c .before .if1 .left), c .from-rank .ensures) (is-done {A = Put} (listed (not (capAllowed (s .ask .cap))) (isWhole s) false (eqb (s .ask .id) 0 || isFound s) (not (hasFree s))) (c .before .before .before .list-answer .result) q (nowhere) (record { answer = done; at = s .free; head = record { id = s .ask .id; reliable = s .ask .reliable; acked = numberAt 0 } }) (c .before .if1 .left))
+    let args = c .before .before .before .before .before .before .args in
+    let is-whole = c .before .before .before .before .is-whole in
+    let list-answer = c .before .before .before .list-answer in
+    let if1 = c .before .if1 in
+    let s = args .s in
+    let q : list-answer .result ≡ answerOf (listed (not (capAllowed (s .ask .cap))) (isWhole s) false (eqb (s .ask .id) 0 || isFound s) (not (hasFree s))) = list-answer .ensures ∙ ap
+    (λ (b : Bool). answerOf (listed (not (capAllowed (s .ask .cap))) b false (eqb (s .ask .id) 0 || isFound s) (not (hasFree s)))) (is-whole .ensures) in
+    rw (done-is (list-answer .result) (if1 .left), c .from-rank .ensures)
+    (is-done {A = Put} (listed (not (capAllowed (s .ask .cap))) (isWhole s) false (eqb (s .ask .id) 0 || isFound s) (not (hasFree s))) (list-answer .result) q (nowhere)
+    (record { answer = done; at = s .free; head = record { id = s .ask .id; reliable = s .ask .reliable; acked = numberAt 0 } }) (if1 .left))
 
 pub match-end-spec : {M : Type 1} → statement M
 match-end-spec =

@@ -22,7 +22,13 @@ met-requires : tie.Need-met-requires
 met-requires c κs = search needs
 
 returns : tie.Need-returns
-returns c = rw (c .met .ensures, c .before .place-on2 .ensures, c .before .before .before .head-on .ensures, c .before .before .before .before .before .before .place-on .ensures, c .before .before .before .before .before .before .before .before .before .before .count-on .ensures, c .before .before .before .before .before .before .before .before .before .before .before .slot-fits .ensures)
+returns c =
+    let slot-fits = c .before .before .before .before .before .before .before .before .before .before .before .slot-fits in
+    let count-on = c .before .before .before .before .before .before .before .before .before .before .count-on in
+    let place-on = c .before .before .before .before .before .before .place-on in
+    let head-on = c .before .before .before .head-on in
+    let place-on2 = c .before .place-on2 in
+    rw (c .met .ensures, place-on2 .ensures, head-on .ensures, place-on .ensures, count-on .ensures, slot-fits .ensures)
 
 pub see-spec : {M : Type 1} → statement M
 see-spec =

@@ -16,16 +16,24 @@ open-requires : tie.Need-open-requires
 open-requires c κs = search needs
 
 ask-block-requires : tie.Need-ask-block-requires
-ask-block-requires c κs = opened-law (c .before .before .before .before .before .before .args .words .now) (c .before .before .before .before .before .before .args .end) (c .before .before .before .before .before .before .args .a) _ _ (c .before .before .before .before .before .before .pre .0) (c .before .before .before .before .before .before .pre .1) (c .before .before .before .«open» .ensures) .1
+ask-block-requires c κs =
+    let args = c .before .before .before .before .before .before .args in
+    let pre = c .before .before .before .before .before .before .pre in
+    let «open» = c .before .before .before .«open» in
+    opened-law (args .words .now) (args .end) (args .a) _ _ (pre .0) (pre .1) («open» .ensures) .1
 
 same-length : tie.Need-same-length
 same-length c = search needs
 
 returns : tie.Need-returns
 returns c =
-    let g = c .before .before .before .before .before .before .before .before .before .args in
-    let q = opened-law (c .before .before .before .before .before .before .before .before .before .args .words .now) (c .before .before .before .before .before .before .before .before .before .args .end) (c .before .before .before .before .before .before .before .before .before .args .a) _ _ (c .before .before .before .before .before .before .before .before .before .pre .0) (c .before .before .before .before .before .before .before .before .before .pre .1) (c .before .before .before .before .before .before .«open» .ensures) in
-    new-law (g .words .now) (g .end) (g .a) (c .before .before .before .before .before .before .before .before .before .pre .0) (c .before .before .before .before .before .before .before .before .before .pre .1) (askable (g .set)) _ _ (q .0) (c .before .before .ask-block .ensures)
+    let args = c .before .before .before .before .before .before .before .before .before .args in
+    let pre = c .before .before .before .before .before .before .before .before .before .pre in
+    let «open» = c .before .before .before .before .before .before .«open» in
+    let ask-block = c .before .before .ask-block in
+    let g = args in
+    let q = opened-law (args .words .now) (args .end) (args .a) _ _ (pre .0) (pre .1) («open» .ensures) in
+    new-law (g .words .now) (g .end) (g .a) (pre .0) (pre .1) (askable (g .set)) _ _ (q .0) (ask-block .ensures)
 
 pub new-block-spec : {M : Type 1} → statement M
 new-block-spec = tie.close (tie.spec open-requires ask-block-requires same-length returns)

@@ -23,16 +23,23 @@ use Rattle.rising.proofs.run.holds_at.Reads as holds-at-reads
 use Rattle.rising.proofs.run.place.Reads as place-reads
 
 returns : tie.Need-returns
-returns c = asked-unfit (c .before .before .before .args .n) (c .before .before .before .args .count) (askable (c .before .before .before .args .set)) (c .before .before .before .args .samples .now) (c .before .before .before .args .words .now) (short-samples (c .before .before .before .args .count) (c .before .before .before .args .samples .now) (c .before .before .before .args .words .now) (c .if1 .taken))
+returns c =
+    let args = c .before .before .before .args in
+    asked-unfit (args .n) (args .count) (askable (args .set)) (args .samples .now) (args .words .now) (short-samples (args .count) (args .samples .now) (args .words .now) (c .if1 .taken))
 
 returns-2 : tie.Need-returns-2
-returns-2 c = asked-unfit (c .before .before .before .before .args .n) (c .before .before .before .before .args .count) (askable (c .before .before .before .before .args .set)) (c .before .before .before .before .args .samples .now) (c .before .before .before .before .args .words .now) (short-words (c .before .before .before .before .args .count) (c .before .before .before .before .args .samples .now) (c .before .before .before .before .args .words .now) (c .if2 .taken))
+returns-2 c =
+    let args = c .before .before .before .before .args in
+    asked-unfit (args .n) (args .count) (askable (args .set)) (args .samples .now) (args .words .now) (short-words (args .count) (args .samples .now) (args .words .now) (c .if2 .taken))
 
 next-rank-requires : tie.Need-next-rank-requires
 next-rank-requires c κs = search needs
 
 returns-3 : tie.Need-returns-3
-returns-3 c = asked-nothing (c .before .before .before .before .before .before .args .n) (c .before .before .before .before .before .before .args .count) (askable (c .before .before .before .before .before .before .args .set)) (c .before .before .before .before .before .before .args .samples .now) (c .before .before .before .before .before .before .args .words .now) (ap (λ (x : NextRank). x .none) (sym (c .before .next-rank .ensures)) ∙ c .if3 .taken)
+returns-3 c =
+    let args = c .before .before .before .before .before .before .args in
+    let next-rank = c .before .next-rank in
+    asked-nothing (args .n) (args .count) (askable (args .set)) (args .samples .now) (args .words .now) (ap (λ (x : NextRank). x .none) (sym (next-rank .ensures)) ∙ c .if3 .taken)
 
 slice-reshare-prefix-place : tie.Need-slice-reshare-prefix-place
 slice-reshare-prefix-place c = search needs
@@ -153,15 +160,27 @@ same-length-6 c = search needs
 
 returns-7 : tie.Need-returns-7
 returns-7 c =
-    let g = c .before .before .before .before .before .before .before .before .before .before .before .before .before .before .before .before .before .before .before .before .before .args in
+    let args = c .before .before .before .before .before .before .before .before .before .before .before .before .before .before .before .before .before .before .before .before .before .args in
+    let if1 = c .before .before .before .before .before .before .before .before .before .before .before .before .before .before .before .before .before .before .if1 in
+    let if2 = c .before .before .before .before .before .before .before .before .before .before .before .before .before .before .before .before .before .if2 in
+    let next-rank = c .before .before .before .before .before .before .before .before .before .before .before .before .before .before .before .before .next-rank in
+    let if3 = c .before .before .before .before .before .before .before .before .before .before .before .before .before .before .before .if3 in
+    let place = c .before .before .before .before .before .before .before .before .before .before .before .before .before .place in
+    let holds-at = c .before .before .before .before .before .before .before .before .before .before .before .holds-at in
+    let if4 = c .before .before .before .before .before .before .before .before .before .before .if4 in
+    let if5 = c .before .before .before .before .before .before .before .before .before .if5 in
+    let if6 = c .before .before .before .before .before .before .before .before .if6 in
+    let new-block = c .before .before .before .before .before .before .new-block in
+    let insert = c .before .before .insert in
+    let g = args in
     let S = g .samples .now in
     let W = g .words .now in
     let ms = askable (g .set) in
-    let hs : g .count ≤ length (g .samples .now) = c .before .before .before .before .before .before .before .before .before .before .before .before .before .before .before .before .before .before .if1 .left in
-    let hw : 64 * g .count ≤ length (g .words .now) = omega (arith, c .before .before .before .before .before .before .before .before .before .before .before .before .before .before .before .before .before .if2 .left) in
-    let some : empty (askable (g .set)) ≡ false = ap (λ (x : NextRank). x .none) (sym (c .before .before .before .before .before .before .before .before .before .before .before .before .before .before .before .before .next-rank .ensures)) ∙ c .before .before .before .before .before .before .before .before .before .before .before .before .before .before .before .if3 .left in
-    let p = c .before .before .before .before .before .before .before .before .before .before .before .before .before .place in
-    asked-new (g .n) (g .count) ms S W hs hw some (p .result) (p .ensures) _ _ _ (sym (c .before .before .before .before .before .before .before .before .before .before .before .holds-at .ensures) ∙ c .before .before .before .before .before .before .before .before .before .before .if4 .left) (c .before .before .before .before .before .before .before .before .before .if5 .left) (c .before .before .before .before .before .before .before .before .if6 .left) (c .before .before .before .before .before .before .new-block .ensures) (c .before .before .insert .ensures)
+    let hs : g .count ≤ length (g .samples .now) = if1 .left in
+    let hw : 64 * g .count ≤ length (g .words .now) = omega (arith, if2 .left) in
+    let some : empty (askable (g .set)) ≡ false = ap (λ (x : NextRank). x .none) (sym (next-rank .ensures)) ∙ if3 .left in
+    let p = place in
+    asked-new (g .n) (g .count) ms S W hs hw some (p .result) (p .ensures) _ _ _ (sym (holds-at .ensures) ∙ if4 .left) (if5 .left) (if6 .left) (new-block .ensures) (insert .ensures)
 
 pub request-spec : {M : Type 1} → statement M
 request-spec =

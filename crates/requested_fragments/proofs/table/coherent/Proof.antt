@@ -23,32 +23,60 @@ run-ok-requires : tie.Need-run-ok-requires
 run-ok-requires c κs = search needs
 
 returns-3 : tie.Need-returns-3
-returns-3 c = check-run (c .before .before .before .before .before .before .args .count) (c .before .before .before .before .before .before .args .samples .now) (c .before .before .before .before .before .before .args .words .now) (c .before .before .before .if1 .left) (c .before .before .if2 .left) (sym (c .before .run-ok .ensures) ∙ not-true _ (c .if3 .taken))
+returns-3 c =
+    let args = c .before .before .before .before .before .before .args in
+    let if1 = c .before .before .before .if1 in
+    let if2 = c .before .before .if2 in
+    let run-ok = c .before .run-ok in
+    check-run (args .count) (args .samples .now) (args .words .now) (if1 .left) (if2 .left) (sym (run-ok .ensures) ∙ not-true _ (c .if3 .taken))
 
 mul-a : tie.Need-mul-a
 mul-a c =
-    let h : c .before .before .before .before .before .before .args .count ≤ 16 = run-few _ (c .before .before .before .before .before .before .args .samples .now) (c .before .before .before .before .before .before .args .words .now) (c .before .before .before .if1 .left) (c .before .before .if2 .left) (sym (c .before .run-ok .ensures) ∙ not-false _ (c .if3 .left)) in
+    let args = c .before .before .before .before .before .before .args in
+    let if1 = c .before .before .before .if1 in
+    let if2 = c .before .before .if2 in
+    let run-ok = c .before .run-ok in
+    let h : args .count ≤ 16 = run-few _ (args .samples .now) (args .words .now) (if1 .left) (if2 .left) (sym (run-ok .ensures) ∙ not-false _ (c .if3 .left)) in
     search needs
 
 all-hold-requires : tie.Need-all-hold-requires
 all-hold-requires c κs =
-    let h : c .before .before .before .before .before .before .args .count ≤ 16 = run-few _ (c .before .before .before .before .before .before .args .samples .now) (c .before .before .before .before .before .before .args .words .now) (c .before .before .before .if1 .left) (c .before .before .if2 .left) (sym (c .before .run-ok .ensures) ∙ not-false _ (c .if3 .left)) in
-    (omega (arith, h, c .before .before .if2 .left), h)
+    let args = c .before .before .before .before .before .before .args in
+    let if1 = c .before .before .before .if1 in
+    let if2 = c .before .before .if2 in
+    let run-ok = c .before .run-ok in
+    let h : args .count ≤ 16 = run-few _ (args .samples .now) (args .words .now) (if1 .left) (if2 .left) (sym (run-ok .ensures) ∙ not-false _ (c .if3 .left)) in
+    (omega (arith, h, if2 .left), h)
 
 mul-all-zero : tie.Need-mul-all-zero
 mul-all-zero c =
-    let h : c .before .before .before .before .before .before .before .args .count ≤ 16 = run-few _ (c .before .before .before .before .before .before .before .args .samples .now) (c .before .before .before .before .before .before .before .args .words .now) (c .before .before .before .before .if1 .left) (c .before .before .before .if2 .left) (sym (c .before .before .run-ok .ensures) ∙ not-false _ (c .before .if3 .left)) in
+    let args = c .before .before .before .before .before .before .before .args in
+    let if1 = c .before .before .before .before .if1 in
+    let if2 = c .before .before .before .if2 in
+    let run-ok = c .before .before .run-ok in
+    let if3 = c .before .if3 in
+    let h : args .count ≤ 16 = run-few _ (args .samples .now) (args .words .now) (if1 .left) (if2 .left) (sym (run-ok .ensures) ∙ not-false _ (if3 .left)) in
     search needs
 
 sub-all-zero : tie.Need-sub-all-zero
 sub-all-zero c =
-    let h : c .before .before .before .before .before .before .before .args .count ≤ 16 = run-few _ (c .before .before .before .before .before .before .before .args .samples .now) (c .before .before .before .before .before .before .before .args .words .now) (c .before .before .before .before .if1 .left) (c .before .before .before .if2 .left) (sym (c .before .before .run-ok .ensures) ∙ not-false _ (c .before .if3 .left)) in
-    omega (arith, h, c .before .before .before .if2 .left)
+    let args = c .before .before .before .before .before .before .before .args in
+    let if1 = c .before .before .before .before .if1 in
+    let if2 = c .before .before .before .if2 in
+    let run-ok = c .before .before .run-ok in
+    let if3 = c .before .if3 in
+    let h : args .count ≤ 16 = run-few _ (args .samples .now) (args .words .now) (if1 .left) (if2 .left) (sym (run-ok .ensures) ∙ not-false _ (if3 .left)) in
+    omega (arith, h, if2 .left)
 
 part-all-zero-start : tie.Need-part-all-zero-start
 part-all-zero-start c =
-    let h : c .before .before .before .before .before .before .before .args .count ≤ 16 = run-few _ (c .before .before .before .before .before .before .before .args .samples .now) (c .before .before .before .before .before .before .before .args .words .now) (c .before .before .before .before .if1 .left) (c .before .before .before .if2 .left) (sym (c .before .before .run-ok .ensures) ∙ not-false _ (c .before .if3 .left)) in
-    omega (arith, h, c .before .before .before .if2 .left)
+    let args = c .before .before .before .before .before .before .before .args in
+    let if1 = c .before .before .before .before .if1 in
+    let if2 = c .before .before .before .if2 in
+    let run-ok = c .before .before .run-ok in
+    let if3 = c .before .if3 in
+    let h : args .count ≤ 16 = run-few _ (args .samples .now) (args .words .now) (if1 .left) (if2 .left) (sym (run-ok .ensures) ∙ not-false _ (if3 .left)) in
+    omega (arith, h, if2 .left)
 
 part-all-zero-end : tie.Need-part-all-zero-end
 part-all-zero-end c = search needs
@@ -57,7 +85,14 @@ all-zero-requires : tie.Need-all-zero-requires
 all-zero-requires c κs = search needs
 
 returns-4 : tie.Need-returns-4
-returns-4 c = check-rest (c .before .before .before .before .before .before .before .before .before .args .count) (c .before .before .before .before .before .before .before .before .before .args .samples .now) (c .before .before .before .before .before .before .before .before .before .args .words .now) (c .before .before .before .before .before .before .if1 .left) (c .before .before .before .before .before .if2 .left) _ _ (sym (c .before .before .before .before .run-ok .ensures) ∙ not-false _ (c .before .before .before .if3 .left)) (c .before .before .all-hold .ensures) (c .all-zero .ensures)
+returns-4 c =
+    let args = c .before .before .before .before .before .before .before .before .before .args in
+    let if1 = c .before .before .before .before .before .before .if1 in
+    let if2 = c .before .before .before .before .before .if2 in
+    let run-ok = c .before .before .before .before .run-ok in
+    let if3 = c .before .before .before .if3 in
+    let all-hold = c .before .before .all-hold in
+    check-rest (args .count) (args .samples .now) (args .words .now) (if1 .left) (if2 .left) _ _ (sym (run-ok .ensures) ∙ not-false _ (if3 .left)) (all-hold .ensures) (c .all-zero .ensures)
 
 pub coherent-spec : {M : Type 1} → statement M
 coherent-spec =

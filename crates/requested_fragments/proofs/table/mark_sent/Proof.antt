@@ -18,10 +18,14 @@ use Rattle.requested_fragments.proofs.table.find.Reads as find-reads
 use Rattle.rising.proofs.room.cut.Reads as cut-reads
 
 returns : tie.Need-returns
-returns c = marked-same (c .before .before .before .args .count) (c .before .before .before .args .samples .now) (c .before .before .before .args .words .now) _ _ (short-samples (c .before .before .before .args .count) (c .before .before .before .args .samples .now) (c .before .before .before .args .words .now) (c .if1 .taken))
+returns c =
+    let args = c .before .before .before .args in
+    marked-same (args .count) (args .samples .now) (args .words .now) _ _ (short-samples (args .count) (args .samples .now) (args .words .now) (c .if1 .taken))
 
 returns-2 : tie.Need-returns-2
-returns-2 c = marked-same (c .before .before .before .before .args .count) (c .before .before .before .before .args .samples .now) (c .before .before .before .before .args .words .now) _ _ (short-words (c .before .before .before .before .args .count) (c .before .before .before .before .args .samples .now) (c .before .before .before .before .args .words .now) (c .if2 .taken))
+returns-2 c =
+    let args = c .before .before .before .before .args in
+    marked-same (args .count) (args .samples .now) (args .words .now) _ _ (short-words (args .count) (args .samples .now) (args .words .now) (c .if2 .taken))
 
 slice-reshare-prefix-find : tie.Need-slice-reshare-prefix-find
 slice-reshare-prefix-find c = search needs

@@ -46,7 +46,13 @@ same-length : tie.Need-same-length
 same-length c = search needs
 
 returns-3 : tie.Need-returns-3
-returns-3 c = cut-some (c .before .before .before .before .before .before .before .before .args .i) (c .before .before .before .before .before .before .before .before .args .k) (c .before .before .before .before .before .before .before .before .args .count) (c .before .before .before .before .before .before .before .before .args .s .now) (c .before .before .before .before .before .before .if1 .left) (c .before .before .before .before .smaller .result) _ (c .before .before .before .before .before .if2 .left) (c .before .before .before .before .smaller .ensures) (ap (back (c .before .before .before .before .before .before .before .before .args .i) (c .before .before .before .before .before .before .before .before .args .count) (c .before .before .before .before .before .before .before .before .args .s .now)) (c .before .before .drop-front .ensures))
+returns-3 c =
+    let args = c .before .before .before .before .before .before .before .before .args in
+    let if1 = c .before .before .before .before .before .before .if1 in
+    let if2 = c .before .before .before .before .before .if2 in
+    let smaller = c .before .before .before .before .smaller in
+    let drop-front = c .before .before .drop-front in
+    cut-some (args .i) (args .k) (args .count) (args .s .now) (if1 .left) (smaller .result) _ (if2 .left) (smaller .ensures) (ap (back (args .i) (args .count) (args .s .now)) (drop-front .ensures))
 
 pub cut-spec : {M : Type 1} → statement M
 cut-spec =

@@ -33,17 +33,24 @@ shared-slice-read-result c = search needs
 
 returns : tie.Need-returns
 returns c =
-    let l = take (c .before .before .before .before .smaller .result) (c .before .before .before .before .before .before .args .s .now) in
-    let n : length l ≡ c .before .before .before .before .smaller .result = length-take-le (c .before .before .before .before .smaller .result) (c .before .before .before .before .before .before .args .s .now) (omega (arith, c .before .before .before .before .smaller .ensures)) in
-    sym (getD-take (c .before .before .before .before .smaller .result) (c .before .before .before .before .before .before .args .s .now) (c .before .before .place .result) 0 (c .before .if1 .taken)) ∙ first-at l (c .before .before .place .result) (omega arith)
-    ∙ ap (λ (i : ℕ). firstOr 0 (drop i l)) (c .before .before .place .ensures) ∙ ap (λ (x : List ℕ). firstOr 0 (fromOn (c .before .before .before .before .before .before .args .n) x)) (ap (λ (k : ℕ). take k (c .before .before .before .before .before .before .args .s .now)) (c .before .before .before .before .smaller .ensures) ∙ take-min (c .before .before .before .before .before .before .args .count) (c .before .before .before .before .before .before .args .s .now))
+    let args = c .before .before .before .before .before .before .args in
+    let smaller = c .before .before .before .before .smaller in
+    let place = c .before .before .place in
+    let if1 = c .before .if1 in
+    let l = take (smaller .result) (args .s .now) in
+    let n : length l ≡ smaller .result = length-take-le (smaller .result) (args .s .now) (omega (arith, smaller .ensures)) in
+    sym (getD-take (smaller .result) (args .s .now) (place .result) 0 (if1 .taken)) ∙ first-at l (place .result) (omega arith)
+    ∙ ap (λ (i : ℕ). firstOr 0 (drop i l)) (place .ensures) ∙ ap (λ (x : List ℕ). firstOr 0 (fromOn (args .n) x)) (ap (λ (k : ℕ). take k (args .s .now)) (smaller .ensures) ∙ take-min (args .count) (args .s .now))
 
 returns-2 : tie.Need-returns-2
 returns-2 c =
-    let l = take (c .before .before .before .smaller .result) (c .before .before .before .before .before .args .s .now) in
-    let n : length l ≡ c .before .before .before .smaller .result = length-take-le (c .before .before .before .smaller .result) (c .before .before .before .before .before .args .s .now) (omega (arith, c .before .before .before .smaller .ensures)) in
-    first-none l (c .before .place .result) (omega arith)
-    ∙ ap (λ (i : ℕ). firstOr 0 (drop i l)) (c .before .place .ensures) ∙ ap (λ (x : List ℕ). firstOr 0 (fromOn (c .before .before .before .before .before .args .n) x)) (ap (λ (k : ℕ). take k (c .before .before .before .before .before .args .s .now)) (c .before .before .before .smaller .ensures) ∙ take-min (c .before .before .before .before .before .args .count) (c .before .before .before .before .before .args .s .now))
+    let args = c .before .before .before .before .before .args in
+    let smaller = c .before .before .before .smaller in
+    let place = c .before .place in
+    let l = take (smaller .result) (args .s .now) in
+    let n : length l ≡ smaller .result = length-take-le (smaller .result) (args .s .now) (omega (arith, smaller .ensures)) in
+    first-none l (place .result) (omega arith)
+    ∙ ap (λ (i : ℕ). firstOr 0 (drop i l)) (place .ensures) ∙ ap (λ (x : List ℕ). firstOr 0 (fromOn (args .n) x)) (ap (λ (k : ℕ). take k (args .s .now)) (smaller .ensures) ∙ take-min (args .count) (args .s .now))
 
 pub first-from-spec : {M : Type 1} → statement M
 first-from-spec =

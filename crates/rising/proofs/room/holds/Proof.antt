@@ -21,7 +21,10 @@ contains-requires : tie.Need-contains-requires
 contains-requires c κs = search needs
 
 returns : tie.Need-returns
-returns c = c .contains .ensures ∙ ap (λ (l : List ℕ). has l (c .before .before .before .before .args .n)) (ap (λ (k : ℕ). take k (c .before .before .before .before .args .s .now)) (c .before .before .smaller .ensures) ∙ take-min (c .before .before .before .before .args .count) (c .before .before .before .before .args .s .now))
+returns c =
+    let args = c .before .before .before .before .args in
+    let smaller = c .before .before .smaller in
+    c .contains .ensures ∙ ap (λ (l : List ℕ). has l (args .n)) (ap (λ (k : ℕ). take k (args .s .now)) (smaller .ensures) ∙ take-min (args .count) (args .s .now))
 
 pub holds-spec : {M : Type 1} → statement M
 holds-spec =

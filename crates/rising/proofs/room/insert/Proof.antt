@@ -37,22 +37,45 @@ same-length : tie.Need-same-length
 same-length c = search needs
 
 returns-2 : tie.Need-returns-2
-returns-2 c = insert-held (c .before .before .before .before .before .before .before .args .count) (c .before .before .before .before .before .before .before .args .n) (c .before .before .before .place .result) (c .before .before .before .before .before .before .before .args .s .now) (c .before .before .before .before .before .if1 .left) (c .before .before .before .place .ensures) (c .before .holds-at .result) (c .before .holds-at .ensures) (c .if2 .taken)
+returns-2 c =
+    let args = c .before .before .before .before .before .before .before .args in
+    let if1 = c .before .before .before .before .before .if1 in
+    let place = c .before .before .before .place in
+    let holds-at = c .before .holds-at in
+    insert-held (args .count) (args .n) (place .result) (args .s .now) (if1 .left) (place .ensures) (holds-at .result) (holds-at .ensures) (c .if2 .taken)
 
 put-requires : tie.Need-put-requires
-put-requires c κs = (place-in (c .before .before .before .before .before .before .before .before .before .args .count) (c .before .before .before .before .before .before .before .before .before .args .n) (c .before .before .before .before .before .place .result) (c .before .before .before .before .before .before .before .before .before .args .s .now) (c .before .before .before .before .before .before .before .if1 .left) (c .before .before .before .before .before .place .ensures), search needs)
+put-requires c κs =
+    let args = c .before .before .before .before .before .before .before .before .before .args in
+    let if1 = c .before .before .before .before .before .before .before .if1 in
+    let place = c .before .before .before .before .before .place in
+    (place-in (args .count) (args .n) (place .result) (args .s .now) (if1 .left) (place .ensures), search needs)
 
 same-length-2 : tie.Need-same-length-2
 same-length-2 c = search needs
 
 returns-3 : tie.Need-returns-3
-returns-3 c = insert-put (c .before .before .before .before .before .before .before .before .before .before .before .before .args .count) (c .before .before .before .before .before .before .before .before .before .before .before .before .args .n) (c .before .before .before .before .before .before .before .before .place .result) (c .before .before .before .before .before .before .before .before .before .before .before .before .args .s .now) (c .before .before .before .before .before .before .before .before .before .before .if1 .left) (c .before .before .before .before .before .before .before .before .place .ensures) (c .before .before .before .before .before .before .holds-at .result) (c .before .before .before .before .before .before .holds-at .ensures) (c .before .before .put .result) (c .before .before .put .last .0) (c .before .before .put .ensures) (c .before .before .before .before .before .if2 .left) (c .before .before .before .before .if3 .taken)
+returns-3 c =
+    let args = c .before .before .before .before .before .before .before .before .before .before .before .before .args in
+    let if1 = c .before .before .before .before .before .before .before .before .before .before .if1 in
+    let place = c .before .before .before .before .before .before .before .before .place in
+    let holds-at = c .before .before .before .before .before .before .holds-at in
+    let if2 = c .before .before .before .before .before .if2 in
+    let if3 = c .before .before .before .before .if3 in
+    let put = c .before .before .put in
+    insert-put (args .count) (args .n) (place .result) (args .s .now) (if1 .left) (place .ensures) (holds-at .result) (holds-at .ensures) (put .result) (put .last .0) (put .ensures) (if2 .left) (if3 .taken)
 
 same-length-3 : tie.Need-same-length-3
 same-length-3 c = search needs
 
 returns-4 : tie.Need-returns-4
-returns-4 c = insert-full (c .before .before .before .before .before .before .before .before .args .count) (c .before .before .before .before .before .before .before .before .args .n) (c .before .before .before .before .place .result) (c .before .before .before .before .before .before .before .before .args .s .now) (c .before .before .before .before .before .before .if1 .left) (c .before .before .before .before .place .ensures) (c .before .before .holds-at .result) (c .before .before .holds-at .ensures) (c .before .if2 .left) (omega arith)
+returns-4 c =
+    let args = c .before .before .before .before .before .before .before .before .args in
+    let if1 = c .before .before .before .before .before .before .if1 in
+    let place = c .before .before .before .before .place in
+    let holds-at = c .before .before .holds-at in
+    let if2 = c .before .if2 in
+    insert-full (args .count) (args .n) (place .result) (args .s .now) (if1 .left) (place .ensures) (holds-at .result) (holds-at .ensures) (if2 .left) (omega arith)
 
 pub insert-spec : {M : Type 1} → statement M
 insert-spec =

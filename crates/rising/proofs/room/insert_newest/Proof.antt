@@ -32,7 +32,10 @@ same-length-2 : tie.Need-same-length-2
 same-length-2 c = search needs
 
 returns-3 : tie.Need-returns-3
-returns-3 c = let z = c .before .before .before .before .before .before .before .before in newest-same (z .args .count) (z .args .n) (c .before .before .before .place .result) (z .args .s .now) (omega arith) (c .before .before .before .place .ensures) (c .before .holds-at .result) (c .before .holds-at .ensures) (c .if3 .taken)
+returns-3 c =
+    let place = c .before .before .before .place in
+    let holds-at = c .before .holds-at in
+    let z = c .before .before .before .before .before .before .before .before in newest-same (z .args .count) (z .args .n) (place .result) (z .args .s .now) (omega arith) (place .ensures) (holds-at .result) (holds-at .ensures) (c .if3 .taken)
 
 sub-drop-front : tie.Need-sub-drop-front
 sub-drop-front c = search needs
@@ -41,25 +44,44 @@ part-drop-front-start : tie.Need-part-drop-front-start
 part-drop-front-start c = search needs
 
 part-drop-front-end : tie.Need-part-drop-front-end
-part-drop-front-end c = let z = c .before .before .before .before .before .before .before .before in full-place (z .args .count) (z .args .n) (c .before .before .before .place .result) (z .args .s .now) (omega arith) (c .before .before .before .place .ensures) (c .before .holds-at .result) (c .before .holds-at .ensures)
+part-drop-front-end c =
+    let place = c .before .before .before .place in
+    let holds-at = c .before .holds-at in
+    let z = c .before .before .before .before .before .before .before .before in full-place (z .args .count) (z .args .n) (place .result) (z .args .s .now) (omega arith) (place .ensures) (holds-at .result) (holds-at .ensures)
 
 drop-front-requires : tie.Need-drop-front-requires
 drop-front-requires c κs = search needs
 
 sub-s : tie.Need-sub-s
-sub-s c = let z = c .before .before .before .before .before .before .before .before .before .before .before .before in full-some (z .args .count) (z .args .n) (c .before .before .before .before .before .before .before .place .result) (z .args .s .now) (omega arith) (c .before .before .before .before .before .before .before .place .ensures) (c .before .before .before .before .before .holds-at .result) (c .before .before .before .before .before .holds-at .ensures) (c .before .before .before .before .if3 .left)
+sub-s c =
+    let place = c .before .before .before .before .before .before .before .place in
+    let holds-at = c .before .before .before .before .before .holds-at in
+    let if3 = c .before .before .before .before .if3 in
+    let z = c .before .before .before .before .before .before .before .before .before .before .before .before in full-some (z .args .count) (z .args .n) (place .result) (z .args .s .now) (omega arith) (place .ensures) (holds-at .result) (holds-at .ensures) (if3 .left)
 
 mul-s : tie.Need-mul-s
-mul-s c = let z = c .before .before .before .before .before .before .before .before .before .before .before .before in omega (arith, full-place (z .args .count) (z .args .n) (c .before .before .before .before .before .before .before .place .result) (z .args .s .now) (omega arith) (c .before .before .before .before .before .before .before .place .ensures) (c .before .before .before .before .before .holds-at .result) (c .before .before .before .before .before .holds-at .ensures))
+mul-s c =
+    let place = c .before .before .before .before .before .before .before .place in
+    let holds-at = c .before .before .before .before .before .holds-at in
+    let z = c .before .before .before .before .before .before .before .before .before .before .before .before in omega (arith, full-place (z .args .count) (z .args .n) (place .result) (z .args .s .now) (omega arith) (place .ensures) (holds-at .result) (holds-at .ensures))
 
 slice-write-s : tie.Need-slice-write-s
-slice-write-s c = let z = c .before .before .before .before .before .before .before .before .before .before .before .before in omega (arith, full-place (z .args .count) (z .args .n) (c .before .before .before .before .before .before .before .place .result) (z .args .s .now) (omega arith) (c .before .before .before .before .before .before .before .place .ensures) (c .before .before .before .before .before .holds-at .result) (c .before .before .before .before .before .holds-at .ensures), full-some (z .args .count) (z .args .n) (c .before .before .before .before .before .before .before .place .result) (z .args .s .now) (omega arith) (c .before .before .before .before .before .before .before .place .ensures) (c .before .before .before .before .before .holds-at .result) (c .before .before .before .before .before .holds-at .ensures) (c .before .before .before .before .if3 .left))
+slice-write-s c =
+    let place = c .before .before .before .before .before .before .before .place in
+    let holds-at = c .before .before .before .before .before .holds-at in
+    let if3 = c .before .before .before .before .if3 in
+    let z = c .before .before .before .before .before .before .before .before .before .before .before .before in omega (arith, full-place (z .args .count) (z .args .n) (place .result) (z .args .s .now) (omega arith) (place .ensures) (holds-at .result) (holds-at .ensures), full-some (z .args .count) (z .args .n) (place .result) (z .args .s .now) (omega arith) (place .ensures) (holds-at .result) (holds-at .ensures) (if3 .left))
 
 same-length-3 : tie.Need-same-length-3
 same-length-3 c = search needs
 
 returns-4 : tie.Need-returns-4
-returns-4 c = let z = c .before .before .before .before .before .before .before .before .before .before .before .before in newest-other (z .args .count) (z .args .n) (c .before .before .before .before .before .before .before .place .result) (z .args .s .now) (omega arith) (c .before .before .before .before .before .before .before .place .ensures) (c .before .before .before .before .before .holds-at .result) (c .before .before .before .before .before .holds-at .ensures) (c .before .before .before .before .if3 .left) _ (ap (λ (x : List ℕ). set (back 0 (c .before .before .before .before .before .before .before .place .result) (z .args .s .now) x) (c .before .before .before .before .before .before .before .place .result - 1) (z .args .n)) (c .before .before .drop-front .ensures))
+returns-4 c =
+    let place = c .before .before .before .before .before .before .before .place in
+    let holds-at = c .before .before .before .before .before .holds-at in
+    let if3 = c .before .before .before .before .if3 in
+    let drop-front = c .before .before .drop-front in
+    let z = c .before .before .before .before .before .before .before .before .before .before .before .before in newest-other (z .args .count) (z .args .n) (place .result) (z .args .s .now) (omega arith) (place .ensures) (holds-at .result) (holds-at .ensures) (if3 .left) _ (ap (λ (x : List ℕ). set (back 0 (place .result) (z .args .s .now) x) (place .result - 1) (z .args .n)) (drop-front .ensures))
 
 pub insert-newest-spec : {M : Type 1} → statement M
 insert-newest-spec =

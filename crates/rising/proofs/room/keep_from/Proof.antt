@@ -31,7 +31,13 @@ same-length : tie.Need-same-length
 same-length c = search needs
 
 returns-2 : tie.Need-returns-2
-returns-2 c = as-well (fromOn (c .before .before .before .before .before .before .before .before .args .n)) (c .before .before .before .before .before .before .before .before .args .count) (c .before .before .before .before .before .before .before .before .args .s .now) (c .before .before .before .before .before .before .if1 .left) (cutOut 0 (c .before .before .before .before .place .result)) (c .before .before .cut .result) (c .before .before .cut .last .0) (c .before .before .cut .ensures) (from-is (c .before .before .before .before .before .before .before .before .args .count) (c .before .before .before .before .before .before .before .before .args .n) (c .before .before .before .before .place .result) (c .before .before .before .before .before .before .before .before .args .s .now) (c .before .before .before .before .before .before .if1 .left) (c .before .before .before .before .place .ensures))
+returns-2 c =
+    let args = c .before .before .before .before .before .before .before .before .args in
+    let if1 = c .before .before .before .before .before .before .if1 in
+    let place = c .before .before .before .before .place in
+    let cut = c .before .before .cut in
+    as-well (fromOn (args .n)) (args .count) (args .s .now) (if1 .left) (cutOut 0 (place .result)) (cut .result) (cut .last .0) (cut .ensures)
+    (from-is (args .count) (args .n) (place .result) (args .s .now) (if1 .left) (place .ensures))
 
 pub keep-from-spec : {M : Type 1} → statement M
 keep-from-spec =

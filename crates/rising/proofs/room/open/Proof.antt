@@ -46,7 +46,14 @@ same-length : tie.Need-same-length
 same-length c = search needs
 
 returns-2 : tie.Need-returns-2
-returns-2 c = open-done (c .before .before .before .before .before .before .before .before .args .i) (c .before .before .before .before .before .before .before .before .args .k) (c .before .before .before .before .before .before .before .before .args .count) (c .before .before .before .before .before .before .before .before .args .s .now) (c .before .before .before .before .before .before .if1 .left) (c .before .before .before .before .before .smaller .result) (c .before .before .before .before .before .before .before .before .args .count + c .before .before .before .before .smaller2 .result) _ (c .before .before .before .before .before .smaller .ensures) (ap (λ (x : ℕ). c .before .before .before .before .before .before .before .before .args .count + x) (c .before .before .before .before .smaller2 .ensures)) (ap (back (c .before .before .before .before .before .smaller .result) (c .before .before .before .before .before .before .before .before .args .count + c .before .before .before .before .smaller2 .result) (c .before .before .before .before .before .before .before .before .args .s .now)) (c .before .before .lift .ensures))
+returns-2 c =
+    let args = c .before .before .before .before .before .before .before .before .args in
+    let if1 = c .before .before .before .before .before .before .if1 in
+    let smaller = c .before .before .before .before .before .smaller in
+    let smaller2 = c .before .before .before .before .smaller2 in
+    let lift = c .before .before .lift in
+    open-done (args .i) (args .k) (args .count) (args .s .now) (if1 .left) (smaller .result) (args .count + smaller2 .result) _ (smaller .ensures) (ap (λ (x : ℕ). args .count + x) (smaller2 .ensures))
+    (ap (back (smaller .result) (args .count + smaller2 .result) (args .s .now)) (lift .ensures))
 
 pub open-spec : {M : Type 1} → statement M
 open-spec =

@@ -40,13 +40,26 @@ same-length : tie.Need-same-length
 same-length c = search needs
 
 returns-2 : tie.Need-returns-2
-returns-2 c = as-well (removed (c .before .before .before .before .before .before .before .before .before .before .before .args .n)) (c .before .before .before .before .before .before .before .before .before .before .before .args .count) (c .before .before .before .before .before .before .before .before .before .before .before .args .s .now) (c .before .before .before .before .before .before .before .before .before .if1 .left) (cutOut (c .before .before .before .before .before .before .before .place .result) 1) (c .before .before .cut .result) (c .before .before .cut .last .0) (c .before .before .cut .ensures) (removed-held (c .before .before .before .before .before .before .before .before .before .before .before .args .count) (c .before .before .before .before .before .before .before .before .before .before .before .args .n) (c .before .before .before .before .before .before .before .place .result) (c .before .before .before .before .before .before .before .before .before .before .before .args .s .now) (c .before .before .before .before .before .before .before .before .before .if1 .left) (c .before .before .before .before .before .before .before .place .ensures) (c .before .before .before .before .before .holds-at .result) (c .before .before .before .before .before .holds-at .ensures) (c .before .before .before .before .if2 .taken))
+returns-2 c =
+    let args = c .before .before .before .before .before .before .before .before .before .before .before .args in
+    let if1 = c .before .before .before .before .before .before .before .before .before .if1 in
+    let place = c .before .before .before .before .before .before .before .place in
+    let holds-at = c .before .before .before .before .before .holds-at in
+    let if2 = c .before .before .before .before .if2 in
+    let cut = c .before .before .cut in
+    as-well (removed (args .n)) (args .count) (args .s .now) (if1 .left) (cutOut (place .result) 1) (cut .result) (cut .last .0) (cut .ensures)
+    (removed-held (args .count) (args .n) (place .result) (args .s .now) (if1 .left) (place .ensures) (holds-at .result) (holds-at .ensures) (if2 .taken))
 
 same-length-2 : tie.Need-same-length-2
 same-length-2 c = search needs
 
 returns-3 : tie.Need-returns-3
-returns-3 c = removed-none (c .before .before .before .before .before .before .before .args .count) (c .before .before .before .before .before .before .before .args .n) (c .before .before .before .place .result) (c .before .before .before .before .before .before .before .args .s .now) (c .before .before .before .before .before .if1 .left) (c .before .before .before .place .ensures) (c .before .holds-at .result) (c .before .holds-at .ensures) (c .if2 .left)
+returns-3 c =
+    let args = c .before .before .before .before .before .before .before .args in
+    let if1 = c .before .before .before .before .before .if1 in
+    let place = c .before .before .before .place in
+    let holds-at = c .before .holds-at in
+    removed-none (args .count) (args .n) (place .result) (args .s .now) (if1 .left) (place .ensures) (holds-at .result) (holds-at .ensures) (c .if2 .left)
 
 pub remove-spec : {M : Type 1} → statement M
 remove-spec =

@@ -75,7 +75,11 @@ loop2-less : tie.Need-loop2-less Inv-loop μ-loop Inv-loop2 μ-loop2
 loop2-less c = search needs
 
 loop2-again : tie.Need-loop2-again Inv-loop μ-loop Inv-loop2 μ-loop2
-loop2-again c = omega (arith, c .before .before .before .loop2 .inv, place-miss (c .before .before .before .before .before .before .before .args .s .now) (c .before .before .before .before .before .before .before .args .n) (c .before .before .before .loop2 .i) (c .before .before .before .loop2 .i + 1) (c .before .before .loop2-test .taken) (c .if2 .left) refl)
+loop2-again c =
+    let args = c .before .before .before .before .before .before .before .args in
+    let loop2 = c .before .before .before .loop2 in
+    let loop2-test = c .before .before .loop2-test in
+    omega (arith, loop2 .inv, place-miss (args .s .now) (args .n) (loop2 .i) (loop2 .i + 1) (loop2-test .taken) (c .if2 .left) refl)
 
 returns-3 : tie.Need-returns-3 Inv-loop μ-loop Inv-loop2 μ-loop2
 returns-3 c = rw (c .before .loop2 .inv, done _ _ (c .loop2-test .left)) (omega arith)

@@ -24,7 +24,10 @@ shared-slice-read-if2 : tie.Need-shared-slice-read-if2
 shared-slice-read-if2 c = omega arith
 
 returns-2 : tie.Need-returns-2
-returns-2 c = omega (arith, place-miss (c .before .before .before .before .args .s .now) (c .before .before .before .before .args .n) (c .before .before .before .before .args .i) (c .before .before .before .before .args .i + 1) (omega arith) (c .before .before .if1 .left) (omega arith), place-hit (c .before .before .before .before .args .s .now) (c .before .before .before .before .args .n) ((c .before .before .before .before .args .i + 1)) (omega arith) (c .if2 .taken))
+returns-2 c =
+    let args = c .before .before .before .before .args in
+    let if1 = c .before .before .if1 in
+    omega (arith, place-miss (args .s .now) (args .n) (args .i) (args .i + 1) (omega arith) (if1 .left) (omega arith), place-hit (args .s .now) (args .n) ((args .i + 1)) (omega arith) (c .if2 .taken))
 
 add-if3 : tie.Need-add-if3
 add-if3 c = omega arith
@@ -36,7 +39,17 @@ shared-slice-read-if3 : tie.Need-shared-slice-read-if3
 shared-slice-read-if3 c = omega arith
 
 returns-3 : tie.Need-returns-3
-returns-3 c = omega (arith, place-miss (c .before .before .before .before .before .before .args .s .now) (c .before .before .before .before .before .before .args .n) (c .before .before .before .before .before .before .args .i) (c .before .before .before .before .before .before .args .i + 1) (omega arith) (c .before .before .before .before .if1 .left) (omega arith), place-miss (c .before .before .before .before .before .before .args .s .now) (c .before .before .before .before .before .before .args .n) ((c .before .before .before .before .before .before .args .i + 1)) (c .before .before .before .before .before .before .args .i + 2) (omega arith) (c .before .before .if2 .left) (omega arith), place-hit (c .before .before .before .before .before .before .args .s .now) (c .before .before .before .before .before .before .args .n) ((c .before .before .before .before .before .before .args .i + 2)) (omega arith) (c .if3 .taken))
+returns-3 c =
+    let args = c .before .before .before .before .before .before .args in
+    let if1 = c .before .before .before .before .if1 in
+    let if2 = c .before .before .if2 in
+    omega (
+      arith,
+      place-miss (args .s .now) (args .n) (args .i) (args .i + 1) (omega arith) (if1 .left) (omega arith),
+      place-miss (args .s .now) (args .n) ((args .i + 1)) (args .i + 2) (omega arith) (if2 .left)
+          (omega arith),
+      place-hit (args .s .now) (args .n) ((args .i + 2)) (omega arith) (c .if3 .taken),
+    )
 
 add-if4 : tie.Need-add-if4
 add-if4 c = omega arith
@@ -48,10 +61,35 @@ shared-slice-read-if4 : tie.Need-shared-slice-read-if4
 shared-slice-read-if4 c = omega arith
 
 returns-4 : tie.Need-returns-4
-returns-4 c = omega (arith, place-miss (c .before .before .before .before .before .before .before .before .args .s .now) (c .before .before .before .before .before .before .before .before .args .n) (c .before .before .before .before .before .before .before .before .args .i) (c .before .before .before .before .before .before .before .before .args .i + 1) (omega arith) (c .before .before .before .before .before .before .if1 .left) (omega arith), place-miss (c .before .before .before .before .before .before .before .before .args .s .now) (c .before .before .before .before .before .before .before .before .args .n) ((c .before .before .before .before .before .before .before .before .args .i + 1)) (c .before .before .before .before .before .before .before .before .args .i + 2) (omega arith) (c .before .before .before .before .if2 .left) (omega arith), place-miss (c .before .before .before .before .before .before .before .before .args .s .now) (c .before .before .before .before .before .before .before .before .args .n) ((c .before .before .before .before .before .before .before .before .args .i + 2)) (c .before .before .before .before .before .before .before .before .args .i + 3) (omega arith) (c .before .before .if3 .left) (omega arith), place-hit (c .before .before .before .before .before .before .before .before .args .s .now) (c .before .before .before .before .before .before .before .before .args .n) ((c .before .before .before .before .before .before .before .before .args .i + 3)) (omega arith) (c .if4 .taken))
+returns-4 c =
+    let args = c .before .before .before .before .before .before .before .before .args in
+    let if1 = c .before .before .before .before .before .before .if1 in
+    let if2 = c .before .before .before .before .if2 in
+    let if3 = c .before .before .if3 in
+    omega (
+      arith,
+      place-miss (args .s .now) (args .n) (args .i) (args .i + 1) (omega arith) (if1 .left) (omega arith),
+      place-miss (args .s .now) (args .n) ((args .i + 1)) (args .i + 2) (omega arith) (if2 .left)
+          (omega arith),
+      place-miss (args .s .now) (args .n) ((args .i + 2)) (args .i + 3) (omega arith) (if3 .left) (omega arith),
+      place-hit (args .s .now) (args .n) ((args .i + 3)) (omega arith) (c .if4 .taken),
+    )
 
 returns-5 : tie.Need-returns-5
-returns-5 c = omega (arith, place-miss (c .before .before .before .before .before .before .before .before .args .s .now) (c .before .before .before .before .before .before .before .before .args .n) (c .before .before .before .before .before .before .before .before .args .i) (c .before .before .before .before .before .before .before .before .args .i + 1) (omega arith) (c .before .before .before .before .before .before .if1 .left) (omega arith), place-miss (c .before .before .before .before .before .before .before .before .args .s .now) (c .before .before .before .before .before .before .before .before .args .n) ((c .before .before .before .before .before .before .before .before .args .i + 1)) (c .before .before .before .before .before .before .before .before .args .i + 2) (omega arith) (c .before .before .before .before .if2 .left) (omega arith), place-miss (c .before .before .before .before .before .before .before .before .args .s .now) (c .before .before .before .before .before .before .before .before .args .n) ((c .before .before .before .before .before .before .before .before .args .i + 2)) (c .before .before .before .before .before .before .before .before .args .i + 3) (omega arith) (c .before .before .if3 .left) (omega arith), place-miss (c .before .before .before .before .before .before .before .before .args .s .now) (c .before .before .before .before .before .before .before .before .args .n) ((c .before .before .before .before .before .before .before .before .args .i + 3)) (c .before .before .before .before .before .before .before .before .args .i + 4) (omega arith) (c .if4 .left) (omega arith))
+returns-5 c =
+    let args = c .before .before .before .before .before .before .before .before .args in
+    let if1 = c .before .before .before .before .before .before .if1 in
+    let if2 = c .before .before .before .before .if2 in
+    let if3 = c .before .before .if3 in
+    omega (
+      arith,
+      place-miss (args .s .now) (args .n) (args .i) (args .i + 1) (omega arith) (if1 .left) (omega arith),
+      place-miss (args .s .now) (args .n) ((args .i + 1)) (args .i + 2) (omega arith) (if2 .left)
+          (omega arith),
+      place-miss (args .s .now) (args .n) ((args .i + 2)) (args .i + 3) (omega arith) (if3 .left) (omega arith),
+      place-miss (args .s .now) (args .n) ((args .i + 3)) (args .i + 4) (omega arith) (c .if4 .left)
+          (omega arith),
+    )
 
 pub place-in-four-spec : {M : Type 1} → statement M
 place-in-four-spec =

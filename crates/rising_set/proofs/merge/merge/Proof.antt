@@ -25,7 +25,12 @@ same-length : tie.Need-same-length Inv-loop μ-loop
 same-length c = c .before .before .before .loop .inv .long
 
 returns : tie.Need-returns Inv-loop μ-loop
-returns c = let e = merging-end (c .before .before .before .before .before .before .before .args .s .now) (c .before .before .before .before .before .before .before .args .t .now) (c .before .before .before .before .before .before .before .args .out .now) (c .before .before .before .loop .out) (c .before .before .before .loop .i) (c .before .before .before .loop .j) (c .before .before .before .loop .k) (c .before .before .before .loop .inv) (c .before .before .next-turn .result .more) (c .before .before .next-turn .result .number) (c .before .before .next-turn .result .i) (c .before .before .next-turn .result .j) (c .before .before .next-turn .ensures) (not-true _ (c .if1 .taken)) in record { result = e .0; first = e .1 }
+returns c =
+    let args = c .before .before .before .before .before .before .before .args in
+    let loop = c .before .before .before .loop in
+    let next-turn = c .before .before .next-turn in
+    let e = merging-end (args .s .now) (args .t .now) (args .out .now) (loop .out) (loop .i) (loop .j) (loop .k) (loop .inv) (next-turn .result .more) (next-turn .result .number) (next-turn .result .i)
+    (next-turn .result .j) (next-turn .ensures) (not-true _ (c .if1 .taken)) in record { result = e .0; first = e .1 }
 
 mul-out : tie.Need-mul-out Inv-loop μ-loop
 mul-out c = omega arith
@@ -34,16 +39,26 @@ slice-write-out : tie.Need-slice-write-out Inv-loop μ-loop
 slice-write-out c = omega arith
 
 add-k : tie.Need-add-k Inv-loop μ-loop
-add-k c = omega (arith, merged-le (c .before .before .before .before .before .before .before .before .args .s .now) (c .before .before .before .before .before .before .before .before .args .t .now), c .before .before .before .before .loop .inv .within, c .before .before .before .before .before .before .before .before .good .0 .1, c .before .before .before .before .before .before .before .before .good .1 .0 .1)
+add-k c =
+    let args = c .before .before .before .before .before .before .before .before .args in
+    let good = c .before .before .before .before .before .before .before .before .good in
+    let loop = c .before .before .before .before .loop in
+    omega (arith, merged-le (args .s .now) (args .t .now), loop .inv .within, good .0 .1, good .1 .0 .1)
 
 loop-less : tie.Need-loop-less Inv-loop μ-loop
 loop-less c = c .before .before .before .next-turn .ensures .falls (not-false _ (c .before .if1 .left))
 
 loop-again : tie.Need-loop-again Inv-loop μ-loop
 loop-again c =
+    let args = c .before .before .before .before .before .before .before .before .args in
+    let loop = c .before .before .before .before .loop in
+    let next-turn = c .before .before .before .next-turn in
+    let if1 = c .before .if1 in
     ⊎-elim
-    (λ w. rw (w .1) (merging-write (c .before .before .before .before .before .before .before .before .args .s .now) (c .before .before .before .before .before .before .before .before .args .t .now) (c .before .before .before .before .before .before .before .before .args .out .now) (c .before .before .before .before .loop .out) (c .before .before .before .before .loop .i) (c .before .before .before .before .loop .j) (c .before .before .before .before .loop .k) (c .before .before .before .before .loop .inv) (c .before .before .before .next-turn .result .more) (c .before .before .before .next-turn .result .number) (c .before .before .before .next-turn .result .i) (c .before .before .before .next-turn .result .j) (c .before .before .before .next-turn .ensures) (not-false _ (c .before .if1 .left)) (w .0 .taken)))
-    (λ w. rw (w .1) (merging-skip (c .before .before .before .before .before .before .before .before .args .s .now) (c .before .before .before .before .before .before .before .before .args .t .now) (c .before .before .before .before .before .before .before .before .args .out .now) (c .before .before .before .before .loop .out) (c .before .before .before .before .loop .i) (c .before .before .before .before .loop .j) (c .before .before .before .before .loop .k) (c .before .before .before .before .loop .inv) (c .before .before .before .next-turn .result .more) (c .before .before .before .next-turn .result .number) (c .before .before .before .next-turn .result .i) (c .before .before .before .next-turn .result .j) (c .before .before .before .next-turn .ensures) (not-false _ (c .before .if1 .left)) (w .0 .left)))
+    (λ w. rw (w .1) (merging-write (args .s .now) (args .t .now) (args .out .now) (loop .out) (loop .i) (loop .j) (loop .k) (loop .inv) (next-turn .result .more) (next-turn .result .number) (next-turn .result .i)
+    (next-turn .result .j) (next-turn .ensures) (not-false _ (if1 .left)) (w .0 .taken)))
+    (λ w. rw (w .1) (merging-skip (args .s .now) (args .t .now) (args .out .now) (loop .out) (loop .i) (loop .j) (loop .k) (loop .inv) (next-turn .result .more) (next-turn .result .number) (next-turn .result .i)
+    (next-turn .result .j) (next-turn .ensures) (not-false _ (if1 .left)) (w .0 .left)))
     (c .if2 .came)
 
 pub merge-spec : {M : Type 1} → statement M

@@ -8,7 +8,11 @@ larger-requires : tie.Need-larger-requires
 larger-requires c κs = search needs
 
 returns : tie.Need-returns
-returns c = stay-late (c .before .before .before .args .count) (c .before .before .before .args .unsent .now) (c .before .before .before .args .last) (c .before .before .before .args .a) (c .before .before .before .args .base) (c .before .larger .result) (c .before .before .before .pre) (c .before .larger .ensures) (c .if1 .taken)
+returns c =
+    let args = c .before .before .before .args in
+    let pre = c .before .before .before .pre in
+    let larger = c .before .larger in
+    stay-late (args .count) (args .unsent .now) (args .last) (args .a) (args .base) (larger .result) pre (larger .ensures) (c .if1 .taken)
 
 keep-from-requires : tie.Need-keep-from-requires
 keep-from-requires c κs = search needs
@@ -23,7 +27,15 @@ same-length : tie.Need-same-length
 same-length c = search needs
 
 returns-2 : tie.Need-returns-2
-returns-2 c = stay-some (c .before .before .before .before .before .before .before .before .before .before .before .args .count) (c .before .before .before .before .before .before .before .before .before .before .before .args .unsent .now) (c .before .before .before .before .before .before .before .before .before .before .before .args .last) (c .before .before .before .before .before .before .before .before .before .before .before .args .a) (c .before .before .before .before .before .before .before .before .before .before .before .args .base) (c .before .before .before .before .before .before .before .before .before .larger .result) (c .before .before .before .before .before .before .before .before .before .before .before .pre) (c .before .before .before .before .before .before .before .before .before .larger .ensures) (c .before .before .before .before .before .before .before .before .if1 .left) (c .before .before .before .before .before .before .keep-from .result) (c .before .before .keep-before .result) (c .before .before .before .before .before .before .keep-from .last .0) (c .before .before .keep-before .last .0) (c .before .before .before .before .before .before .keep-from .ensures) (c .before .before .keep-before .ensures)
+returns-2 c =
+    let args = c .before .before .before .before .before .before .before .before .before .before .before .args in
+    let pre = c .before .before .before .before .before .before .before .before .before .before .before .pre in
+    let larger = c .before .before .before .before .before .before .before .before .before .larger in
+    let if1 = c .before .before .before .before .before .before .before .before .if1 in
+    let keep-from = c .before .before .before .before .before .before .keep-from in
+    let keep-before = c .before .before .keep-before in
+    stay-some (args .count) (args .unsent .now) (args .last) (args .a) (args .base) (larger .result) pre (larger .ensures) (if1 .left) (keep-from .result) (keep-before .result) (keep-from .last .0) (keep-before .last .0)
+    (keep-from .ensures) (keep-before .ensures)
 
 pub stay-spec : {M : Type 1} → statement M
 stay-spec =

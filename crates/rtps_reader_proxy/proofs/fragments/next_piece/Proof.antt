@@ -20,7 +20,13 @@ past-requires : tie.Need-past-requires
 past-requires c κs = search needs
 
 returns-2 : tie.Need-returns-2
-returns-2 c = rw (c .before .before .from-rank .ensures, c .before .from-rank2 .ensures, c .past .ensures) (piece-found (c .before .before .before .before .before .before .args .rows) (c .before .before .before .before .before .before .args .n) (c .before .before .before .before .before .before .args .f) (c .before .before .before .before .before .of .result) (c .before .before .before .before .before .of .ensures) (c .before .before .before .if1 .left))
+returns-2 c =
+    let args = c .before .before .before .before .before .before .args in
+    let of = c .before .before .before .before .before .of in
+    let if1 = c .before .before .before .if1 in
+    let from-rank = c .before .before .from-rank in
+    let from-rank2 = c .before .from-rank2 in
+    rw (from-rank .ensures, from-rank2 .ensures, c .past .ensures) (piece-found (args .rows) (args .n) (args .f) (of .result) (of .ensures) (if1 .left))
 
 pub next-piece-spec : {M : Type 1} → statement M
 next-piece-spec = tie.close (tie.spec of-requires returns from-rank-requires from-rank-requires-2 past-requires returns-2)

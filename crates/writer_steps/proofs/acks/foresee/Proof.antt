@@ -36,7 +36,20 @@ of-requires : tie.Need-of-requires
 of-requires c κs = search needs
 
 returns : tie.Need-returns
-returns c = see-refused (c .before .before .before .before .before .before .before .before .before .before .before .before .before .before .before .args .set) (c .before .before .before .before .before .before .before .before .before .before .before .before .before .before .before .args .last) (c .before .before .before .before .before .before .before .before .before .before .before .before .before .before .before .args .proxy) (c .before .before .before .before .before .before .before .before .before .before .before .before .before .before .before .args .unsent .now) (c .before .before .before .before .before .before .before .before .before .before .before .before .before .before .before .args .gaps .now) (c .before .before .before .of .result) (rw (c .before .before .before .of .ensures, c .before .before .before .before .before .none .ensures, c .before .before .before .before .before .before .before .before .before .before .before .unsent-ok .ensures, c .before .before .before .before .before .before .before .before .before .before .gaps-ok .ensures, c .before .before .before .before .before .before .before .before .before .within .ensures, c .before .before .before .before .is-negative .ensures, c .before .before .before .before .before .before .larger .ensures, c .before .before .before .before .before .before .before .before .rank .ensures .is, c .before .before .before .before .before .before .before .rank2 .ensures .is, add-one)) (c .before .if1 .taken)
+returns c =
+    let args = c .before .before .before .before .before .before .before .before .before .before .before .before .before .before .before .args in
+    let unsent-ok = c .before .before .before .before .before .before .before .before .before .before .before .unsent-ok in
+    let gaps-ok = c .before .before .before .before .before .before .before .before .before .before .gaps-ok in
+    let within = c .before .before .before .before .before .before .before .before .before .within in
+    let rank = c .before .before .before .before .before .before .before .before .rank in
+    let rank2 = c .before .before .before .before .before .before .before .rank2 in
+    let larger = c .before .before .before .before .before .before .larger in
+    let none = c .before .before .before .before .before .none in
+    let is-negative = c .before .before .before .before .is-negative in
+    let of = c .before .before .before .of in
+    let if1 = c .before .if1 in
+    see-refused (args .set) (args .last) (args .proxy) (args .unsent .now) (args .gaps .now) (of .result)
+    (rw (of .ensures, none .ensures, unsent-ok .ensures, gaps-ok .ensures, within .ensures, is-negative .ensures, larger .ensures, rank .ensures .is, rank2 .ensures .is, add-one)) (if1 .taken)
 
 rank-requires-3 : tie.Need-rank-requires-3
 rank-requires-3 c κs = search needs
@@ -48,7 +61,23 @@ from-rank-requires : tie.Need-from-rank-requires
 from-rank-requires c κs = search needs
 
 returns-2 : tie.Need-returns-2
-returns-2 c = see-done (c .before .before .before .before .before .before .before .before .before .before .before .before .before .before .before .before .before .args .set) (c .before .before .before .before .before .before .before .before .before .before .before .before .before .before .before .before .before .args .last) (c .before .before .before .before .before .before .before .before .before .before .before .before .before .before .before .before .before .args .proxy) (c .before .before .before .before .before .before .before .before .before .before .before .before .before .before .before .before .before .args .unsent .now) (c .before .before .before .before .before .before .before .before .before .before .before .before .before .before .before .before .before .args .gaps .now) (c .before .before .before .before .before .of .result) (rw (c .before .before .before .before .before .of .ensures, c .before .before .before .before .before .before .before .none .ensures, c .before .before .before .before .before .before .before .before .before .before .before .before .before .unsent-ok .ensures, c .before .before .before .before .before .before .before .before .before .before .before .before .gaps-ok .ensures, c .before .before .before .before .before .before .before .before .before .before .before .within .ensures, c .before .before .before .before .before .before .is-negative .ensures, c .before .before .before .before .before .before .before .before .larger .ensures, c .before .before .before .before .before .before .before .before .before .before .rank .ensures .is, c .before .before .before .before .before .before .before .before .before .rank2 .ensures .is, add-one)) (c .before .before .before .if1 .left) (c .from-rank .result) (rw (c .from-rank .ensures, c .before .larger2 .ensures, c .before .before .rank3 .ensures .is, c .before .before .before .before .before .before .before .before .larger .ensures, c .before .before .before .before .before .before .before .before .before .rank2 .ensures .is))
+returns-2 c =
+    let args = c .before .before .before .before .before .before .before .before .before .before .before .before .before .before .before .before .before .args in
+    let unsent-ok = c .before .before .before .before .before .before .before .before .before .before .before .before .before .unsent-ok in
+    let gaps-ok = c .before .before .before .before .before .before .before .before .before .before .before .before .gaps-ok in
+    let within = c .before .before .before .before .before .before .before .before .before .before .before .within in
+    let rank = c .before .before .before .before .before .before .before .before .before .before .rank in
+    let rank2 = c .before .before .before .before .before .before .before .before .before .rank2 in
+    let larger = c .before .before .before .before .before .before .before .before .larger in
+    let none = c .before .before .before .before .before .before .before .none in
+    let is-negative = c .before .before .before .before .before .before .is-negative in
+    let of = c .before .before .before .before .before .of in
+    let if1 = c .before .before .before .if1 in
+    let rank3 = c .before .before .rank3 in
+    let larger2 = c .before .larger2 in
+    see-done (args .set) (args .last) (args .proxy) (args .unsent .now) (args .gaps .now) (of .result)
+    (rw (of .ensures, none .ensures, unsent-ok .ensures, gaps-ok .ensures, within .ensures, is-negative .ensures, larger .ensures, rank .ensures .is, rank2 .ensures .is, add-one)) (if1 .left) (c .from-rank .result)
+    (rw (c .from-rank .ensures, larger2 .ensures, rank3 .ensures .is, larger .ensures, rank2 .ensures .is))
 
 pub foresee-spec : {M : Type 1} → statement M
 foresee-spec =

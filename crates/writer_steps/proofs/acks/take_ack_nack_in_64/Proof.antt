@@ -46,7 +46,23 @@ same-length-2 : tie.Need-same-length-2
 same-length-2 c = search needs
 
 returns : tie.Need-returns
-returns c = in-64 (c .before .before .before .before .taken .result) (c .before .before .before .before .before .before .before .before .listed-64 .result .heads) (c .before .before .before .before .taken .last .1 .1 .0) (c .before .before .before .before .taken .last .1 .1 .1 .0) (ackStep (c .before .before .before .before .before .before .before .before .before .before .before .before .before .before .before .before .before .before .before .before .before .before .before .before .before .before .args .heads) (c .before .before .before .before .before .before .before .before .before .before .before .before .before .before .before .before .before .before .before .before .before .before .before .before .before .before .args .flow) (c .before .before .before .before .before .before .before .before .before .before .before .before .before .before .before .before .before .before .before .before .before .before .before .before .before .before .args .id) (c .before .before .before .before .before .before .before .before .before .before .before .before .before .before .before .before .before .before .before .before .before .before .before .before .before .before .args .set) (c .before .before .before .before .before .before .before .before .before .before .before .before .before .before .before .before .before .before .before .before .before .before .before .before .before .before .args .proxy) (c .before .before .before .before .before .before .before .before .before .before .before .before .before .before .before .before .before .before .before .before .before .before .before .before .before .before .args .unsent .now) (c .before .before .before .before .before .before .before .before .before .before .before .before .before .before .before .before .before .before .before .before .before .before .before .before .before .before .args .gaps .now)) (ack-taken (c .before .before .before .before .before .before .before .before .before .before .before .before .before .before .before .before .before .before .before .before .before .before .before .before .before .before .args .heads) (c .before .before .before .before .before .before .before .before .before .before .before .before .before .before .before .before .before .before .before .before .before .before .before .before .before .before .args .flow) (c .before .before .before .before .before .before .before .before .before .before .before .before .before .before .before .before .before .before .before .before .before .before .before .before .before .before .args .id) (c .before .before .before .before .before .before .before .before .before .before .before .before .before .before .before .before .before .before .before .before .before .before .before .before .before .before .args .set) (c .before .before .before .before .before .before .before .before .before .before .before .before .before .before .before .before .before .before .before .before .before .before .before .before .before .before .args .proxy) (c .before .before .before .before .before .before .before .before .before .before .before .before .before .before .before .before .before .before .before .before .before .before .before .before .before .before .args .unsent .now) (c .before .before .before .before .before .before .before .before .before .before .before .before .before .before .before .before .before .before .before .before .before .before .before .before .before .before .args .gaps .now) (c .before .before .before .before .before .before .before .before .before .before .before .before .before .before .before .before .before .before .before .before .foresee .result) (c .before .before .before .before .before .before .before .before .before .before .before .before .before .before .before .before .before .before .before .before .foresee .ensures) (c .before .before .before .before .before .before .before .before .before .before .before .before .before .before .before .before .before .lookup-in-64 .result) (c .before .before .before .before .before .before .before .before .before .before .before .before .before .before .before .before .before .lookup-in-64 .ensures) (c .before .before .before .before .before .before .before .before .before .before .before .before .before .before .before .before .agreement .result) (c .before .before .before .before .before .before .before .before .before .before .before .before .before .before .before .before .agreement .ensures) (c .before .before .before .before .before .before .before .before .before .before .before .before .before .before .before .set-acked-in-64 .result .answer) (c .before .before .before .before .before .before .before .before .before .before .before .before .before .before .before .set-acked-in-64 .result .heads) (ap (λ (x : Changed64). x .answer) (c .before .before .before .before .before .before .before .before .before .before .before .before .before .before .before .set-acked-in-64 .ensures)) (ap (λ (x : Changed64). x .heads) (c .before .before .before .before .before .before .before .before .before .before .before .before .before .before .before .set-acked-in-64 .ensures)) (c .before .before .before .before .before .before .before .before .before .before .before .before .frontier-in-64 .result) (c .before .before .before .before .before .before .before .before .before .before .before .before .frontier-in-64 .ensures) (c .before .before .before .before .before .before .before .before .before .before .earlier2 .result) (c .before .before .before .before .before .before .before .before .before .before .earlier2 .ensures ∙ ap (earlier (c .before .before .before .before .before .before .before .before .before .before .before .before .before .before .before .before .before .before .before .before .foresee .result .answer)) (c .before .before .before .before .before .before .before .before .before .before .before .earlier .ensures)) (c .before .before .before .before .before .before .before .before .before .stored .result) (c .before .before .before .before .before .before .before .before .before .stored .ensures) (c .before .before .before .before .taken .result) (c .before .before .before .before .before .before .before .before .listed-64 .result .heads) (c .before .before .before .before .taken .last .1 .1 .0) (c .before .before .before .before .taken .last .1 .1 .1 .0) (ap (λ (x : Listed64). x .heads) (c .before .before .before .before .before .before .before .before .listed-64 .ensures)) (c .before .before .before .before .taken .ensures))
+returns c =
+    let args = c .before .before .before .before .before .before .before .before .before .before .before .before .before .before .before .before .before .before .before .before .before .before .before .before .before .before .args in
+    let foresee = c .before .before .before .before .before .before .before .before .before .before .before .before .before .before .before .before .before .before .before .before .foresee in
+    let lookup-in-64 = c .before .before .before .before .before .before .before .before .before .before .before .before .before .before .before .before .before .lookup-in-64 in
+    let agreement = c .before .before .before .before .before .before .before .before .before .before .before .before .before .before .before .before .agreement in
+    let set-acked-in-64 = c .before .before .before .before .before .before .before .before .before .before .before .before .before .before .before .set-acked-in-64 in
+    let frontier-in-64 = c .before .before .before .before .before .before .before .before .before .before .before .before .frontier-in-64 in
+    let earlier′ = c .before .before .before .before .before .before .before .before .before .before .before .earlier in
+    let earlier2 = c .before .before .before .before .before .before .before .before .before .before .earlier2 in
+    let stored = c .before .before .before .before .before .before .before .before .before .stored in
+    let listed-64 = c .before .before .before .before .before .before .before .before .listed-64 in
+    let taken = c .before .before .before .before .taken in
+    in-64 (taken .result) (listed-64 .result .heads) (taken .last .1 .1 .0) (taken .last .1 .1 .1 .0) (ackStep (args .heads) (args .flow) (args .id) (args .set) (args .proxy) (args .unsent .now) (args .gaps .now))
+    (ack-taken (args .heads) (args .flow) (args .id) (args .set) (args .proxy) (args .unsent .now) (args .gaps .now) (foresee .result) (foresee .ensures) (lookup-in-64 .result) (lookup-in-64 .ensures) (agreement .result)
+    (agreement .ensures) (set-acked-in-64 .result .answer) (set-acked-in-64 .result .heads) (ap (λ (x : Changed64). x .answer) (set-acked-in-64 .ensures)) (ap (λ (x : Changed64). x .heads) (set-acked-in-64 .ensures))
+    (frontier-in-64 .result) (frontier-in-64 .ensures) (earlier2 .result) (earlier2 .ensures ∙ ap (earlier (foresee .result .answer)) (earlier′ .ensures)) (stored .result) (stored .ensures) (taken .result)
+    (listed-64 .result .heads) (taken .last .1 .1 .0) (taken .last .1 .1 .1 .0) (ap (λ (x : Listed64). x .heads) (listed-64 .ensures)) (taken .ensures))
 
 pub take-ack-nack-in-64-spec : {M : Type 1} → statement M
 take-ack-nack-in-64-spec =

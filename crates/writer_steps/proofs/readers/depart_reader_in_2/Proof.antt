@@ -21,7 +21,13 @@ listed-2-requires : tie.Need-listed-2-requires
 listed-2-requires c κs = search needs
 
 returns : tie.Need-returns
-returns c = c .listed-2 .ensures ∙ ap listed2 (list-stepped (c .before .before .before .before .before .before .args .heads) (c .before .before .before .before .before .before .args .flow) (departOf (c .before .before .before .before .before .before .args .heads) (c .before .before .before .before .before .before .args .id)) (c .before .before .before .before .before .remove-in-2 .result .answer) (c .before .before .before .before .before .remove-in-2 .result .heads) (ap (λ (x : Changed2). x .answer) (c .before .before .before .before .before .remove-in-2 .ensures)) (ap (λ (x : Changed2). x .heads) (c .before .before .before .before .before .remove-in-2 .ensures)) (c .before .before .frontier-in-2 .result) (c .before .before .frontier-in-2 .ensures) (c .before .stored .result) (c .before .stored .ensures))
+returns c =
+    let args = c .before .before .before .before .before .before .args in
+    let remove-in-2 = c .before .before .before .before .before .remove-in-2 in
+    let frontier-in-2 = c .before .before .frontier-in-2 in
+    let stored = c .before .stored in
+    c .listed-2 .ensures ∙ ap listed2 (list-stepped (args .heads) (args .flow) (departOf (args .heads) (args .id)) (remove-in-2 .result .answer) (remove-in-2 .result .heads)
+    (ap (λ (x : Changed2). x .answer) (remove-in-2 .ensures)) (ap (λ (x : Changed2). x .heads) (remove-in-2 .ensures)) (frontier-in-2 .result) (frontier-in-2 .ensures) (stored .result) (stored .ensures))
 
 pub depart-reader-in-2-spec : {M : Type 1} → statement M
 depart-reader-in-2-spec =

@@ -21,7 +21,13 @@ listed-64-requires : tie.Need-listed-64-requires
 listed-64-requires c κs = search needs
 
 returns : tie.Need-returns
-returns c = c .listed-64 .ensures ∙ ap listed64 (list-stepped (c .before .before .before .before .before .before .args .heads) (c .before .before .before .before .before .before .args .flow) (matchOf (c .before .before .before .before .before .before .args .heads) (c .before .before .before .before .before .before .args .m)) (c .before .before .before .before .before .add-in-64 .result .answer) (c .before .before .before .before .before .add-in-64 .result .heads) (ap (λ (x : Changed64). x .answer) (c .before .before .before .before .before .add-in-64 .ensures)) (ap (λ (x : Changed64). x .heads) (c .before .before .before .before .before .add-in-64 .ensures)) (c .before .before .frontier-in-64 .result) (c .before .before .frontier-in-64 .ensures) (c .before .stored .result) (c .before .stored .ensures))
+returns c =
+    let args = c .before .before .before .before .before .before .args in
+    let add-in-64 = c .before .before .before .before .before .add-in-64 in
+    let frontier-in-64 = c .before .before .frontier-in-64 in
+    let stored = c .before .stored in
+    c .listed-64 .ensures ∙ ap listed64 (list-stepped (args .heads) (args .flow) (matchOf (args .heads) (args .m)) (add-in-64 .result .answer) (add-in-64 .result .heads)
+    (ap (λ (x : Changed64). x .answer) (add-in-64 .ensures)) (ap (λ (x : Changed64). x .heads) (add-in-64 .ensures)) (frontier-in-64 .result) (frontier-in-64 .ensures) (stored .result) (stored .ensures))
 
 pub match-reader-in-64-spec : {M : Type 1} → statement M
 match-reader-in-64-spec =

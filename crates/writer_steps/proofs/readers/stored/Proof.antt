@@ -14,10 +14,21 @@ earlier-requires-2 : tie.Need-earlier-requires-2
 earlier-requires-2 c κs = search needs
 
 returns : tie.Need-returns
-returns c = store-refused (c .before .before .before .before .before .before .before .before .before .args .before) (c .before .before .before .before .before .before .before .before .before .args .front) (c .before .before .before .before .before .before .before .before .before .args .flow) (c .before .before .earlier2 .result) (rw (c .before .before .earlier2 .ensures, c .before .before .before .earlier .ensures, c .before .before .before .before .before .before .with-acked-frontier .ensures)) (c .if1 .taken)
+returns c =
+    let args = c .before .before .before .before .before .before .before .before .before .args in
+    let with-acked-frontier = c .before .before .before .before .before .before .with-acked-frontier in
+    let earlier = c .before .before .before .earlier in
+    let earlier2 = c .before .before .earlier2 in
+    store-refused (args .before) (args .front) (args .flow) (earlier2 .result) (rw (earlier2 .ensures, earlier .ensures, with-acked-frontier .ensures)) (c .if1 .taken)
 
 returns-2 : tie.Need-returns-2
-returns-2 c = store-done (c .before .before .before .before .before .before .before .before .before .before .args .before) (c .before .before .before .before .before .before .before .before .before .before .args .front) (c .before .before .before .before .before .before .before .before .before .before .args .flow) (c .before .before .before .earlier2 .result) (rw (c .before .before .before .earlier2 .ensures, c .before .before .before .before .earlier .ensures, c .before .before .before .before .before .before .before .with-acked-frontier .ensures)) (c .before .if1 .left) (c .before .before .before .before .before .before .before .with-acked-frontier .result) (c .before .before .before .before .before .before .before .with-acked-frontier .ensures)
+returns-2 c =
+    let args = c .before .before .before .before .before .before .before .before .before .before .args in
+    let with-acked-frontier = c .before .before .before .before .before .before .before .with-acked-frontier in
+    let earlier = c .before .before .before .before .earlier in
+    let earlier2 = c .before .before .before .earlier2 in
+    let if1 = c .before .if1 in
+    store-done (args .before) (args .front) (args .flow) (earlier2 .result) (rw (earlier2 .ensures, earlier .ensures, with-acked-frontier .ensures)) (if1 .left) (with-acked-frontier .result) (with-acked-frontier .ensures)
 
 pub stored-spec : {M : Type 1} → statement M
 stored-spec =

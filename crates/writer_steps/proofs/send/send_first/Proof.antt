@@ -40,7 +40,14 @@ same-length c = search needs
 
 -- src/send.rt:31:9
 returns : tie.Need-returns
-returns c = send-refused (c .before .before .before .before .before .before .before .before .before .before .args .flow) (c .before .before .before .before .before .before .before .before .before .before .args .proxy) (c .before .before .before .before .before .before .before .before .before .before .args .unsent .now) (c .before .before .before .earlier .result) (rw (c .before .before .before .earlier .ensures, c .before .before .before .before .before .before .first-unsent-change .ensures, c .before .before .before .before .before .before .before .before .first-change-sequence-number .ensures)) (c .before .if1 .taken) (c .from-rank .result) (c .from-rank .ensures)
+returns c =
+    let args = c .before .before .before .before .before .before .before .before .before .before .args in
+    let first-change-sequence-number = c .before .before .before .before .before .before .before .before .first-change-sequence-number in
+    let first-unsent-change = c .before .before .before .before .before .before .first-unsent-change in
+    let earlier = c .before .before .before .earlier in
+    let if1 = c .before .if1 in
+    send-refused (args .flow) (args .proxy) (args .unsent .now) (earlier .result) (rw (earlier .ensures, first-unsent-change .ensures, first-change-sequence-number .ensures)) (if1 .taken) (c .from-rank .result)
+    (c .from-rank .ensures)
 
 -- src/send.rt:39:9
 rank-requires : tie.Need-rank-requires
@@ -64,7 +71,19 @@ same-length-2 c = search needs
 
 -- src/send.rt:21:1
 returns-2 : tie.Need-returns-2
-returns-2 c = send-done (c .before .before .before .before .before .before .before .before .before .before .before .before .before .before .before .before .before .before .args .flow) (c .before .before .before .before .before .before .before .before .before .before .before .before .before .before .before .before .before .before .args .proxy) (c .before .before .before .before .before .before .before .before .before .before .before .before .before .before .before .before .before .before .args .unsent .now) (c .before .before .before .before .before .before .before .before .before .before .before .earlier .result) (rw (c .before .before .before .before .before .before .before .before .before .before .before .earlier .ensures, c .before .before .before .before .before .before .before .before .before .before .before .before .before .before .first-unsent-change .ensures, c .before .before .before .before .before .before .before .before .before .before .before .before .before .before .before .before .first-change-sequence-number .ensures)) (c .before .before .before .before .before .before .before .before .before .if1 .left) (c .before .before .before .before .before .before .before .before .before .before .before .before .before .before .first-unsent-change .result .number) (ap (λ (x : NextNumber). x .number) (c .before .before .before .before .before .before .before .before .before .before .before .before .before .before .first-unsent-change .ensures)) (leb (c .before .before .before .before .before .before .before .rank .result) (c .before .before .before .before .before .rank3 .result) && leb (c .before .before .before .before .before .rank3 .result) (c .before .before .before .before .before .before .rank2 .result)) (rw (c .before .before .before .before .before .rank3 .ensures .is, c .before .before .before .before .before .before .rank2 .ensures .is, c .before .before .before .before .before .before .before .rank .ensures .is)) (c .before .before .before .mark-change-sent .result) (c .before .before .before .mark-change-sent .last .1 .0) (c .before .before .before .mark-change-sent .ensures)
+returns-2 c =
+    let args = c .before .before .before .before .before .before .before .before .before .before .before .before .before .before .before .before .before .before .args in
+    let first-change-sequence-number = c .before .before .before .before .before .before .before .before .before .before .before .before .before .before .before .before .first-change-sequence-number in
+    let first-unsent-change = c .before .before .before .before .before .before .before .before .before .before .before .before .before .before .first-unsent-change in
+    let earlier = c .before .before .before .before .before .before .before .before .before .before .before .earlier in
+    let if1 = c .before .before .before .before .before .before .before .before .before .if1 in
+    let rank = c .before .before .before .before .before .before .before .rank in
+    let rank2 = c .before .before .before .before .before .before .rank2 in
+    let rank3 = c .before .before .before .before .before .rank3 in
+    let mark-change-sent = c .before .before .before .mark-change-sent in
+    send-done (args .flow) (args .proxy) (args .unsent .now) (earlier .result) (rw (earlier .ensures, first-unsent-change .ensures, first-change-sequence-number .ensures)) (if1 .left)
+    (first-unsent-change .result .number) (ap (λ (x : NextNumber). x .number) (first-unsent-change .ensures)) (leb (rank .result) (rank3 .result) && leb (rank3 .result) (rank2 .result))
+    (rw (rank3 .ensures .is, rank2 .ensures .is, rank .ensures .is)) (mark-change-sent .result) (mark-change-sent .last .1 .0) (mark-change-sent .ensures)
 
 pub send-first-spec : {M : Type 1} → statement M
 send-first-spec =

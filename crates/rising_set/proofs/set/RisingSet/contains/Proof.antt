@@ -30,7 +30,12 @@ holds-requires : tie.Need-holds-requires
 holds-requires c κs = search needs
 
 returns-2 : tie.Need-returns-2
-returns-2 c = contained-done (c .before .before .before .before .before .before .args .self) (c .before .before .before .before .before .before .args .s .now) (c .before .before .before .before .check .result) (c .before .before .before .before .check .ensures) (c .before .before .before .before .before .before .args .n) (c .before .before .if1 .left) (c .holds .result) (c .holds .ensures ∙ ap (has (membersOf (c .before .before .before .before .before .before .args .self) (c .before .before .before .before .before .before .args .s .now))) (c .before .rank .ensures .is))
+returns-2 c =
+    let args = c .before .before .before .before .before .before .args in
+    let check = c .before .before .before .before .check in
+    let if1 = c .before .before .if1 in
+    let rank = c .before .rank in
+    contained-done (args .self) (args .s .now) (check .result) (check .ensures) (args .n) (if1 .left) (c .holds .result) (c .holds .ensures ∙ ap (has (membersOf (args .self) (args .s .now))) (rank .ensures .is))
 
 pub contains-spec : {M : Type 1} → statement M
 contains-spec = tie.close (tie.spec check-requires returns rank-requires holds-requires returns-2)

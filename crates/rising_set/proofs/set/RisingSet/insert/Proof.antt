@@ -33,7 +33,14 @@ same-length : tie.Need-same-length
 same-length c = search needs
 
 returns : tie.Need-returns
-returns c = change-refused (c .before .before .before .before .before .before .before .before .before .before .args .self) (c .before .before .before .before .before .before .before .before .before .before .args .s .now) (row 2 (not (isSample (c .before .before .before .before .before .before .before .before .before .before .args .n))) ∷ row 9 (isFull (rankOf (c .before .before .before .before .before .before .before .before .before .before .args .n)) (c .before .before .before .before .before .before .before .before .before .before .args .self) (c .before .before .before .before .before .before .before .before .before .before .args .s .now)) ∷ []) (c .before .before .check .result) (c .before .before .check .ensures ∙ rw (c .before .before .before .is-sample .ensures, c .before .before .before .before .before .before .holds .ensures, c .before .before .before .before .before .before .before .rank .ensures .is)) (insert (rankOf (c .before .before .before .before .before .before .before .before .before .before .args .n))) (c .if1 .taken)
+returns c =
+    let args = c .before .before .before .before .before .before .before .before .before .before .args in
+    let rank = c .before .before .before .before .before .before .before .rank in
+    let holds = c .before .before .before .before .before .before .holds in
+    let is-sample = c .before .before .before .is-sample in
+    let check = c .before .before .check in
+    change-refused (args .self) (args .s .now) (row 2 (not (isSample (args .n))) ∷ row 9 (isFull (rankOf (args .n)) (args .self) (args .s .now)) ∷ []) (check .result)
+    (check .ensures ∙ rw (is-sample .ensures, holds .ensures, rank .ensures .is)) (insert (rankOf (args .n))) (c .if1 .taken)
 
 rank-requires-2 : tie.Need-rank-requires-2
 rank-requires-2 c κs = search needs
@@ -45,7 +52,19 @@ same-length-2 : tie.Need-same-length-2
 same-length-2 c = search needs
 
 returns-2 : tie.Need-returns-2
-returns-2 c = insert-done (c .before .before .before .before .before .before .before .before .before .before .before .before .before .before .before .args .self) (c .before .before .before .before .before .before .before .before .before .before .before .before .before .before .before .args .s .now) (row 2 (not (isSample (c .before .before .before .before .before .before .before .before .before .before .before .before .before .before .before .args .n))) ∷ row 9 (isFull (rankOf (c .before .before .before .before .before .before .before .before .before .before .before .before .before .before .before .args .n)) (c .before .before .before .before .before .before .before .before .before .before .before .before .before .before .before .args .self) (c .before .before .before .before .before .before .before .before .before .before .before .before .before .before .before .args .s .now)) ∷ []) (c .before .before .before .before .before .before .before .check .result) (c .before .before .before .before .before .before .before .check .ensures ∙ rw (c .before .before .before .before .before .before .before .before .is-sample .ensures, c .before .before .before .before .before .before .before .before .before .before .before .holds .ensures, c .before .before .before .before .before .before .before .before .before .before .before .before .rank .ensures .is)) (c .before .before .before .before .before .if1 .left) (rankOf (c .before .before .before .before .before .before .before .before .before .before .before .before .before .before .before .args .n)) (c .before .before .insert .result) (c .before .before .insert .last .0) (clear (rowsOf (checked (c .before .before .before .before .before .before .before .before .before .before .before .before .before .before .before .args .self) (c .before .before .before .before .before .before .before .before .before .before .before .before .before .before .before .args .s .now) (row 2 (not (isSample (c .before .before .before .before .before .before .before .before .before .before .before .before .before .before .before .args .n))) ∷ row 9 (isFull (rankOf (c .before .before .before .before .before .before .before .before .before .before .before .before .before .before .before .args .n)) (c .before .before .before .before .before .before .before .before .before .before .before .before .before .before .before .args .self) (c .before .before .before .before .before .before .before .before .before .before .before .before .before .before .before .args .s .now)) ∷ []))) (c .before .before .before .before .before .before .before .check .result) (c .before .before .before .before .before .before .before .check .ensures ∙ rw (c .before .before .before .before .before .before .before .before .is-sample .ensures, c .before .before .before .before .before .before .before .before .before .before .before .holds .ensures, c .before .before .before .before .before .before .before .before .before .before .before .before .rank .ensures .is)) (c .before .before .before .before .before .if1 .left) .gaps-full) (rw (← c .before .before .before .rank2 .ensures .is) (c .before .before .insert .ensures))
+returns-2 c =
+    let args = c .before .before .before .before .before .before .before .before .before .before .before .before .before .before .before .args in
+    let rank = c .before .before .before .before .before .before .before .before .before .before .before .before .rank in
+    let holds = c .before .before .before .before .before .before .before .before .before .before .before .holds in
+    let is-sample = c .before .before .before .before .before .before .before .before .is-sample in
+    let check = c .before .before .before .before .before .before .before .check in
+    let if1 = c .before .before .before .before .before .if1 in
+    let rank2 = c .before .before .before .rank2 in
+    let insert = c .before .before .insert in
+    insert-done (args .self) (args .s .now) (row 2 (not (isSample (args .n))) ∷ row 9 (isFull (rankOf (args .n)) (args .self) (args .s .now)) ∷ []) (check .result)
+    (check .ensures ∙ rw (is-sample .ensures, holds .ensures, rank .ensures .is)) (if1 .left) (rankOf (args .n)) (insert .result) (insert .last .0)
+    (clear (rowsOf (checked (args .self) (args .s .now) (row 2 (not (isSample (args .n))) ∷ row 9 (isFull (rankOf (args .n)) (args .self) (args .s .now)) ∷ []))) (check .result)
+    (check .ensures ∙ rw (is-sample .ensures, holds .ensures, rank .ensures .is)) (if1 .left) .gaps-full) (rw (← rank2 .ensures .is) (insert .ensures))
 
 pub insert-spec : {M : Type 1} → statement M
 insert-spec =

@@ -30,13 +30,35 @@ of-requires : tie.Need-of-requires
 of-requires c κs = search needs
 
 returns : tie.Need-returns
-returns c = join-refused (c .before .before .before .before .before .before .before .before .before .args .self) (c .before .before .before .before .before .before .before .before .before .args .s .now) (c .before .before .before .before .before .before .before .before .before .args .other) (c .before .before .before .before .before .before .before .before .before .args .t .now) (c .before .before .before .before .before .before .before .before .before .args .out .now) (c .before .before .of .result) (rw (c .before .before .of .ensures, c .before .before .before .none .ensures, c .before .before .before .before .before .coherent .ensures, c .before .before .before .before .coherent2 .ensures)) (c .if1 .taken)
+returns c =
+    let args = c .before .before .before .before .before .before .before .before .before .args in
+    let coherent = c .before .before .before .before .before .coherent in
+    let coherent2 = c .before .before .before .before .coherent2 in
+    let none = c .before .before .before .none in
+    let of = c .before .before .of in
+    join-refused (args .self) (args .s .now) (args .other) (args .t .now) (args .out .now) (of .result) (rw (of .ensures, none .ensures, coherent .ensures, coherent2 .ensures)) (c .if1 .taken)
 
 slice-aggregate-merge : tie.Need-slice-aggregate-merge
-slice-aggregate-merge c = sym (length-take-le (c .before .before .before .before .before .before .before .before .before .before .args .self .count) (c .before .before .before .before .before .before .before .before .before .before .args .s .now) (first-run (c .before .before .before .before .before .before .before .before .before .before .args .self) (c .before .before .before .before .before .before .before .before .before .before .args .s .now) (c .before .before .before .before .before .before .before .before .before .before .args .other) (c .before .before .before .before .before .before .before .before .before .before .args .t .now) (c .before .before .before .before .before .before .before .before .before .before .args .out .now) (c .before .before .before .of .result) (rw (c .before .before .before .of .ensures, c .before .before .before .before .none .ensures, c .before .before .before .before .before .before .coherent .ensures, c .before .before .before .before .before .coherent2 .ensures)) (c .before .if1 .left) .fits))
+slice-aggregate-merge c =
+    let args = c .before .before .before .before .before .before .before .before .before .before .args in
+    let coherent = c .before .before .before .before .before .before .coherent in
+    let coherent2 = c .before .before .before .before .before .coherent2 in
+    let none = c .before .before .before .before .none in
+    let of = c .before .before .before .of in
+    let if1 = c .before .if1 in
+    sym (length-take-le (args .self .count) (args .s .now)
+    (first-run (args .self) (args .s .now) (args .other) (args .t .now) (args .out .now) (of .result) (rw (of .ensures, none .ensures, coherent .ensures, coherent2 .ensures)) (if1 .left) .fits))
 
 slice-aggregate-merge-2 : tie.Need-slice-aggregate-merge-2
-slice-aggregate-merge-2 c = sym (length-take-le (c .before .before .before .before .before .before .before .before .before .before .before .args .other .count) (c .before .before .before .before .before .before .before .before .before .before .before .args .t .now) (second-run (c .before .before .before .before .before .before .before .before .before .before .before .args .self) (c .before .before .before .before .before .before .before .before .before .before .before .args .s .now) (c .before .before .before .before .before .before .before .before .before .before .before .args .other) (c .before .before .before .before .before .before .before .before .before .before .before .args .t .now) (c .before .before .before .before .before .before .before .before .before .before .before .args .out .now) (c .before .before .before .before .of .result) (rw (c .before .before .before .before .of .ensures, c .before .before .before .before .before .none .ensures, c .before .before .before .before .before .before .before .coherent .ensures, c .before .before .before .before .before .before .coherent2 .ensures)) (c .before .before .if1 .left) .fits))
+slice-aggregate-merge-2 c =
+    let args = c .before .before .before .before .before .before .before .before .before .before .before .args in
+    let coherent = c .before .before .before .before .before .before .before .coherent in
+    let coherent2 = c .before .before .before .before .before .before .coherent2 in
+    let none = c .before .before .before .before .before .none in
+    let of = c .before .before .before .before .of in
+    let if1 = c .before .before .if1 in
+    sym (length-take-le (args .other .count) (args .t .now)
+    (second-run (args .self) (args .s .now) (args .other) (args .t .now) (args .out .now) (of .result) (rw (of .ensures, none .ensures, coherent .ensures, coherent2 .ensures)) (if1 .left) .fits))
 
 merge-requires : tie.Need-merge-requires
 merge-requires c κs = search needs
@@ -45,13 +67,33 @@ cut-requires : tie.Need-cut-requires
 cut-requires c κs = search needs
 
 sub-t25 : tie.Need-sub-t25
-sub-t25 c = join-done (c .before .before .before .before .before .before .before .before .before .before .before .before .before .before .before .before .before .before .before .args .self) (c .before .before .before .before .before .before .before .before .before .before .before .before .before .before .before .before .before .before .before .args .s .now) (c .before .before .before .before .before .before .before .before .before .before .before .before .before .before .before .before .before .before .before .args .other) (c .before .before .before .before .before .before .before .before .before .before .before .before .before .before .before .before .before .before .before .args .t .now) (c .before .before .before .before .before .before .before .before .before .before .before .before .before .before .before .before .before .before .before .args .out .now) (c .before .before .before .before .before .before .before .before .before .before .before .before .of .result) (rw (c .before .before .before .before .before .before .before .before .before .before .before .before .of .ensures, c .before .before .before .before .before .before .before .before .before .before .before .before .before .none .ensures, c .before .before .before .before .before .before .before .before .before .before .before .before .before .before .before .coherent .ensures, c .before .before .before .before .before .before .before .before .before .before .before .before .before .before .coherent2 .ensures)) (c .before .before .before .before .before .before .before .before .before .before .if1 .left) (c .before .before .before .before .before .before .merge .result) (c .before .before .cut .result) (c .before .before .before .before .before .before .merge .last .1 .1 .0) (c .before .before .cut .last .0) (c .before .before .before .before .before .before .merge .ensures) _ refl (c .before .before .cut .ensures) .0
+sub-t25 c =
+    let args = c .before .before .before .before .before .before .before .before .before .before .before .before .before .before .before .before .before .before .before .args in
+    let coherent = c .before .before .before .before .before .before .before .before .before .before .before .before .before .before .before .coherent in
+    let coherent2 = c .before .before .before .before .before .before .before .before .before .before .before .before .before .before .coherent2 in
+    let none = c .before .before .before .before .before .before .before .before .before .before .before .before .before .none in
+    let of = c .before .before .before .before .before .before .before .before .before .before .before .before .of in
+    let if1 = c .before .before .before .before .before .before .before .before .before .before .if1 in
+    let merge = c .before .before .before .before .before .before .merge in
+    let cut = c .before .before .cut in
+    join-done (args .self) (args .s .now) (args .other) (args .t .now) (args .out .now) (of .result) (rw (of .ensures, none .ensures, coherent .ensures, coherent2 .ensures)) (if1 .left) (merge .result) (cut .result)
+    (merge .last .1 .1 .0) (cut .last .0) (merge .ensures) _ refl (cut .ensures) .0
 
 same-length : tie.Need-same-length
 same-length c = search needs
 
 returns-2 : tie.Need-returns-2
-returns-2 c = join-done (c .before .before .before .before .before .before .before .before .before .before .before .before .before .before .before .before .before .before .before .args .self) (c .before .before .before .before .before .before .before .before .before .before .before .before .before .before .before .before .before .before .before .args .s .now) (c .before .before .before .before .before .before .before .before .before .before .before .before .before .before .before .before .before .before .before .args .other) (c .before .before .before .before .before .before .before .before .before .before .before .before .before .before .before .before .before .before .before .args .t .now) (c .before .before .before .before .before .before .before .before .before .before .before .before .before .before .before .before .before .before .before .args .out .now) (c .before .before .before .before .before .before .before .before .before .before .before .before .of .result) (rw (c .before .before .before .before .before .before .before .before .before .before .before .before .of .ensures, c .before .before .before .before .before .before .before .before .before .before .before .before .before .none .ensures, c .before .before .before .before .before .before .before .before .before .before .before .before .before .before .before .coherent .ensures, c .before .before .before .before .before .before .before .before .before .before .before .before .before .before .coherent2 .ensures)) (c .before .before .before .before .before .before .before .before .before .before .if1 .left) (c .before .before .before .before .before .before .merge .result) (c .before .before .cut .result) (c .before .before .before .before .before .before .merge .last .1 .1 .0) (c .before .before .cut .last .0) (c .before .before .before .before .before .before .merge .ensures) _ refl (c .before .before .cut .ensures) .1
+returns-2 c =
+    let args = c .before .before .before .before .before .before .before .before .before .before .before .before .before .before .before .before .before .before .before .args in
+    let coherent = c .before .before .before .before .before .before .before .before .before .before .before .before .before .before .before .coherent in
+    let coherent2 = c .before .before .before .before .before .before .before .before .before .before .before .before .before .before .coherent2 in
+    let none = c .before .before .before .before .before .before .before .before .before .before .before .before .before .none in
+    let of = c .before .before .before .before .before .before .before .before .before .before .before .before .of in
+    let if1 = c .before .before .before .before .before .before .before .before .before .before .if1 in
+    let merge = c .before .before .before .before .before .before .merge in
+    let cut = c .before .before .cut in
+    join-done (args .self) (args .s .now) (args .other) (args .t .now) (args .out .now) (of .result) (rw (of .ensures, none .ensures, coherent .ensures, coherent2 .ensures)) (if1 .left) (merge .result) (cut .result)
+    (merge .last .1 .1 .0) (cut .last .0) (merge .ensures) _ refl (cut .ensures) .1
 
 pub join-spec : {M : Type 1} → statement M
 join-spec =

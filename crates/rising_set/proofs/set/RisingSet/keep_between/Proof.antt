@@ -24,7 +24,10 @@ same-length : tie.Need-same-length
 same-length c = search needs
 
 returns : tie.Need-returns
-returns c = change-refused (c .before .before .before .before .before .args .self) (c .before .before .before .before .before .args .s .now) (row 2 false ∷ row 9 false ∷ []) (c .before .before .check .result) (c .before .before .check .ensures) (between (rankOf (c .before .before .before .before .before .args .b)) (rankOf (c .before .before .before .before .before .args .e))) (c .if1 .taken)
+returns c =
+    let args = c .before .before .before .before .before .args in
+    let check = c .before .before .check in
+    change-refused (args .self) (args .s .now) (row 2 false ∷ row 9 false ∷ []) (check .result) (check .ensures) (between (rankOf (args .b)) (rankOf (args .e))) (c .if1 .taken)
 
 rank-requires : tie.Need-rank-requires
 rank-requires c κs = search needs
@@ -45,7 +48,16 @@ same-length-2 : tie.Need-same-length-2
 same-length-2 c = search needs
 
 returns-2 : tie.Need-returns-2
-returns-2 c = between-done (c .before .before .before .before .before .before .before .before .before .before .before .before .before .before .before .args .self) (c .before .before .before .before .before .before .before .before .before .before .before .before .before .before .before .args .s .now) (row 2 false ∷ row 9 false ∷ []) (c .before .before .before .before .before .before .before .before .before .before .before .before .check .result) (c .before .before .before .before .before .before .before .before .before .before .before .before .check .ensures) (c .before .before .before .before .before .before .before .before .before .before .if1 .left) (rankOf (c .before .before .before .before .before .before .before .before .before .before .before .before .before .before .before .args .b)) (rankOf (c .before .before .before .before .before .before .before .before .before .before .before .before .before .before .before .args .e)) (c .before .before .before .before .before .before .before .keep-from .result) (c .before .before .keep-before .result) (c .before .before .before .before .before .before .before .keep-from .last .0) (c .before .before .keep-before .last .0) (rw (← c .before .before .before .before .before .before .before .before .rank .ensures .is) (c .before .before .before .before .before .before .before .keep-from .ensures)) (rw (← c .before .before .before .rank2 .ensures .is) (c .before .before .keep-before .ensures))
+returns-2 c =
+    let args = c .before .before .before .before .before .before .before .before .before .before .before .before .before .before .before .args in
+    let check = c .before .before .before .before .before .before .before .before .before .before .before .before .check in
+    let if1 = c .before .before .before .before .before .before .before .before .before .before .if1 in
+    let rank = c .before .before .before .before .before .before .before .before .rank in
+    let keep-from = c .before .before .before .before .before .before .before .keep-from in
+    let rank2 = c .before .before .before .rank2 in
+    let keep-before = c .before .before .keep-before in
+    between-done (args .self) (args .s .now) (row 2 false ∷ row 9 false ∷ []) (check .result) (check .ensures) (if1 .left) (rankOf (args .b)) (rankOf (args .e)) (keep-from .result) (keep-before .result)
+    (keep-from .last .0) (keep-before .last .0) (rw (← rank .ensures .is) (keep-from .ensures)) (rw (← rank2 .ensures .is) (keep-before .ensures))
 
 pub keep-between-spec : {M : Type 1} → statement M
 keep-between-spec =

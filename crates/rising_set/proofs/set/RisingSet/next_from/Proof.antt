@@ -34,11 +34,15 @@ of-requires c κs = search needs
 
 returns : tie.Need-returns
 returns c =
-    let s = c .before .before .before .before .before .args .self in
-    let l = c .before .before .before .before .before .args .s .now in
-    rw (c .of .ensures, c .before .before .none .ensures, c .before .coherent .ensures)
-    (next-same (not (isCoherent s l)) (eqb (c .before .before .before .first-from .result) 0) (empty (only (leb (c .before .before .before .before .before .args .at .from)) (membersOf s l))) (c .before .before .before .first-from .result) (firstOr 0 (only (leb (c .before .before .before .before .before .args .at .from)) (membersOf s l)))
-    (λ b. first-is 0 (s .count) l (c .before .before .before .before .before .args .at .from) (c .before .before .before .first-from .result) (run-is 0 (s .count) l (not-false (isCoherent s l) b)) (c .before .before .before .first-from .ensures)))
+    let args = c .before .before .before .before .before .args in
+    let first-from = c .before .before .before .first-from in
+    let none = c .before .before .none in
+    let coherent = c .before .coherent in
+    let s = args .self in
+    let l = args .s .now in
+    rw (c .of .ensures, none .ensures, coherent .ensures)
+    (next-same (not (isCoherent s l)) (eqb (first-from .result) 0) (empty (only (leb (args .at .from)) (membersOf s l))) (first-from .result) (firstOr 0 (only (leb (args .at .from)) (membersOf s l)))
+    (λ b. first-is 0 (s .count) l (args .at .from) (first-from .result) (run-is 0 (s .count) l (not-false (isCoherent s l) b)) (first-from .ensures)))
 
 pub next-from-spec : {M : Type 1} → statement M
 next-from-spec =

@@ -24,7 +24,10 @@ same-length : tie.Need-same-length
 same-length c = search needs
 
 returns : tie.Need-returns
-returns c = change-refused (c .before .before .before .before .before .args .self) (c .before .before .before .before .before .args .s .now) (row 2 false ∷ row 9 false ∷ []) (c .before .before .check .result) (c .before .before .check .ensures) (without (rankOf (c .before .before .before .before .before .args .n))) (c .if1 .taken)
+returns c =
+    let args = c .before .before .before .before .before .args in
+    let check = c .before .before .check in
+    change-refused (args .self) (args .s .now) (row 2 false ∷ row 9 false ∷ []) (check .result) (check .ensures) (without (rankOf (args .n))) (c .if1 .taken)
 
 rank-requires : tie.Need-rank-requires
 rank-requires c κs = search needs
@@ -36,7 +39,13 @@ same-length-2 : tie.Need-same-length-2
 same-length-2 c = search needs
 
 returns-2 : tie.Need-returns-2
-returns-2 c = remove-done (c .before .before .before .before .before .before .before .before .before .before .args .self) (c .before .before .before .before .before .before .before .before .before .before .args .s .now) (row 2 false ∷ row 9 false ∷ []) (c .before .before .before .before .before .before .before .check .result) (c .before .before .before .before .before .before .before .check .ensures) (c .before .before .before .before .before .if1 .left) (rankOf (c .before .before .before .before .before .before .before .before .before .before .args .n)) (c .before .before .remove .result) (c .before .before .remove .last .0) (rw (← c .before .before .before .rank .ensures .is) (c .before .before .remove .ensures))
+returns-2 c =
+    let args = c .before .before .before .before .before .before .before .before .before .before .args in
+    let check = c .before .before .before .before .before .before .before .check in
+    let if1 = c .before .before .before .before .before .if1 in
+    let rank = c .before .before .before .rank in
+    let remove = c .before .before .remove in
+    remove-done (args .self) (args .s .now) (row 2 false ∷ row 9 false ∷ []) (check .result) (check .ensures) (if1 .left) (rankOf (args .n)) (remove .result) (remove .last .0) (rw (← rank .ensures .is) (remove .ensures))
 
 pub remove-spec : {M : Type 1} → statement M
 remove-spec =

@@ -24,7 +24,10 @@ same-length : tie.Need-same-length
 same-length c = search needs
 
 returns : tie.Need-returns
-returns c = change-refused (c .before .before .before .before .before .args .self) (c .before .before .before .before .before .args .s .now) (row 2 false ∷ row 9 false ∷ []) (c .before .before .check .result) (c .before .before .check .ensures) (only (leb (rankOf (c .before .before .before .before .before .args .n)))) (c .if1 .taken)
+returns c =
+    let args = c .before .before .before .before .before .args in
+    let check = c .before .before .check in
+    change-refused (args .self) (args .s .now) (row 2 false ∷ row 9 false ∷ []) (check .result) (check .ensures) (only (leb (rankOf (args .n)))) (c .if1 .taken)
 
 rank-requires : tie.Need-rank-requires
 rank-requires c κs = search needs
@@ -36,7 +39,13 @@ same-length-2 : tie.Need-same-length-2
 same-length-2 c = search needs
 
 returns-2 : tie.Need-returns-2
-returns-2 c = from-done (c .before .before .before .before .before .before .before .before .before .before .args .self) (c .before .before .before .before .before .before .before .before .before .before .args .s .now) (row 2 false ∷ row 9 false ∷ []) (c .before .before .before .before .before .before .before .check .result) (c .before .before .before .before .before .before .before .check .ensures) (c .before .before .before .before .before .if1 .left) (rankOf (c .before .before .before .before .before .before .before .before .before .before .args .n)) (c .before .before .keep-from .result) (c .before .before .keep-from .last .0) (rw (← c .before .before .before .rank .ensures .is) (c .before .before .keep-from .ensures))
+returns-2 c =
+    let args = c .before .before .before .before .before .before .before .before .before .before .args in
+    let check = c .before .before .before .before .before .before .before .check in
+    let if1 = c .before .before .before .before .before .if1 in
+    let rank = c .before .before .before .rank in
+    let keep-from = c .before .before .keep-from in
+    from-done (args .self) (args .s .now) (row 2 false ∷ row 9 false ∷ []) (check .result) (check .ensures) (if1 .left) (rankOf (args .n)) (keep-from .result) (keep-from .last .0) (rw (← rank .ensures .is) (keep-from .ensures))
 
 pub remove-all-before-spec : {M : Type 1} → statement M
 remove-all-before-spec =

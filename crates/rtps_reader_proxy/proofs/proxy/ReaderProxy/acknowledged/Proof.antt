@@ -19,7 +19,10 @@ larger-requires-2 : tie.Need-larger-requires-2
 larger-requires-2 c κs = search needs
 
 stay-requires : tie.Need-stay-requires
-stay-requires c κs = stayable (c .before .before .before .before .before .before .before .args .self) (c .before .before .before .before .before .before .before .args .unsent .now) (c .before .before .before .before .before .before .before .args .gaps .now) (c .before .before .before .before .before .before .before .args .set) (c .before .before .before .before .before .before .before .args .last) (c .before .before .before .before .before .before .before .pre)
+stay-requires c κs =
+    let args = c .before .before .before .before .before .before .before .args in
+    let pre = c .before .before .before .before .before .before .before .pre in
+    stayable (args .self) (args .unsent .now) (args .gaps .now) (args .set) (args .last) pre
 
 join-requires : tie.Need-join-requires
 join-requires c κs = search needs
@@ -37,7 +40,19 @@ same-length-2 : tie.Need-same-length-2
 same-length-2 c = search needs
 
 returns : tie.Need-returns
-returns c = acknowledged-is (c .before .before .before .before .before .before .before .before .before .before .before .before .before .before .before .before .before .before .before .args .self) (c .before .before .before .before .before .before .before .before .before .before .before .before .before .before .before .before .before .before .before .args .unsent .now) (c .before .before .before .before .before .before .before .before .before .before .before .before .before .before .before .before .before .before .before .args .gaps .now) (c .before .before .before .before .before .before .before .before .before .before .before .before .before .before .before .before .before .before .before .args .set) (c .before .before .before .before .before .before .before .before .before .before .before .before .before .before .before .before .before .before .before .args .last) (c .before .before .before .before .before .before .before .before .before .before .before .before .before .before .before .before .before .before .before .pre) (c .before .before .before .before .before .before .before .before .before .before .before .before .before .before .before .before .rank .result) (c .before .before .before .before .before .before .before .before .before .before .before .before .before .before .before .rank2 .result) (c .before .before .before .before .before .before .before .before .before .before .before .before .before .larger2 .result) (c .before .before .before .before .before .before .before .before .before .before .before .stay .result) (c .before .before .before .before .before .before .before .before .before .before .before .stay .last .0) (c .before .before .before .before .before .before .before .before .before .before .before .before .before .before .before .before .rank .ensures .is) (c .before .before .before .before .before .before .before .before .before .before .before .before .before .before .before .rank2 .ensures .is) (c .before .before .before .before .before .before .before .before .before .before .before .before .before .larger2 .ensures ∙ ap (max (c .before .before .before .before .before .before .before .before .before .before .before .before .before .before .before .before .rank .result)) (c .before .before .before .before .before .before .before .before .before .before .before .before .before .before .larger .ensures)) (c .before .before .before .before .before .before .before .before .before .before .before .stay .ensures) (c .before .before .before .before .before .before .before .join .result) (c .before .before .before .keep-from .result) (c .before .before .before .before .before .before .before .join .last .0) (c .before .before .before .keep-from .last .0) (c .with-acked .result) (c .before .before .before .before .before .before .before .join .ensures) (c .before .before .before .keep-from .ensures) (c .with-acked .ensures)
+returns c =
+    let args = c .before .before .before .before .before .before .before .before .before .before .before .before .before .before .before .before .before .before .before .args in
+    let pre = c .before .before .before .before .before .before .before .before .before .before .before .before .before .before .before .before .before .before .before .pre in
+    let rank = c .before .before .before .before .before .before .before .before .before .before .before .before .before .before .before .before .rank in
+    let rank2 = c .before .before .before .before .before .before .before .before .before .before .before .before .before .before .before .rank2 in
+    let larger = c .before .before .before .before .before .before .before .before .before .before .before .before .before .before .larger in
+    let larger2 = c .before .before .before .before .before .before .before .before .before .before .before .before .before .larger2 in
+    let stay = c .before .before .before .before .before .before .before .before .before .before .before .stay in
+    let join = c .before .before .before .before .before .before .before .join in
+    let keep-from = c .before .before .before .keep-from in
+    acknowledged-is (args .self) (args .unsent .now) (args .gaps .now) (args .set) (args .last) pre (rank .result) (rank2 .result) (larger2 .result) (stay .result) (stay .last .0) (rank .ensures .is) (rank2 .ensures .is)
+    (larger2 .ensures ∙ ap (max (rank .result)) (larger .ensures)) (stay .ensures) (join .result) (keep-from .result) (join .last .0) (keep-from .last .0) (c .with-acked .result) (join .ensures) (keep-from .ensures)
+    (c .with-acked .ensures)
 
 pub acknowledged-spec : {M : Type 1} → statement M
 acknowledged-spec = tie.close (tie.spec rank-requires rank-requires-2 larger-requires larger-requires-2 stay-requires join-requires keep-from-requires with-acked-requires same-length same-length-2 returns)

@@ -35,7 +35,18 @@ of-requires : tie.Need-of-requires
 of-requires c κs = search needs
 
 returns : tie.Need-returns
-returns c = ack-rows (c .before .before .before .before .before .before .before .before .before .before .before .before .args .set) (c .before .before .before .before .before .before .before .before .before .before .before .before .args .last) (c .before .before .before .before .before .before .before .before .before .before .before .before .args .self) (c .before .before .before .before .before .before .before .before .before .before .before .before .args .unsent .now) (c .before .before .before .before .before .before .before .before .before .before .before .before .args .gaps .now) (c .of .result) (c .before .before .before .before .before .none .result) (c .before .before .before .before .before .before .before .before .before .unsent-ok .result) (c .before .before .before .before .before .before .before .before .gaps-ok .result) (c .before .before .before .before .before .before .before .within .result) (c .before .before .before .is-negative .result) (c .before .before .before .before .before .before .rank .result) (c .before .before .rank2 .result) (c .before .larger .result) (c .before .before .before .before .before .none .ensures) (c .before .before .before .before .before .before .before .before .before .unsent-ok .ensures) (c .before .before .before .before .before .before .before .before .gaps-ok .ensures) (c .before .before .before .before .before .before .before .within .ensures) (c .before .before .before .is-negative .ensures) (c .before .before .before .before .before .before .rank .ensures .is) (c .before .before .rank2 .ensures .is) (c .before .larger .ensures) (c .of .ensures)
+returns c =
+    let args = c .before .before .before .before .before .before .before .before .before .before .before .before .args in
+    let unsent-ok = c .before .before .before .before .before .before .before .before .before .unsent-ok in
+    let gaps-ok = c .before .before .before .before .before .before .before .before .gaps-ok in
+    let within = c .before .before .before .before .before .before .before .within in
+    let rank = c .before .before .before .before .before .before .rank in
+    let none = c .before .before .before .before .before .none in
+    let is-negative = c .before .before .before .is-negative in
+    let rank2 = c .before .before .rank2 in
+    let larger = c .before .larger in
+    ack-rows (args .set) (args .last) (args .self) (args .unsent .now) (args .gaps .now) (c .of .result) (none .result) (unsent-ok .result) (gaps-ok .result) (within .result) (is-negative .result) (rank .result)
+    (rank2 .result) (larger .result) (none .ensures) (unsent-ok .ensures) (gaps-ok .ensures) (within .ensures) (is-negative .ensures) (rank .ensures .is) (rank2 .ensures .is) (larger .ensures) (c .of .ensures)
 
 pub check-ack-spec : {M : Type 1} → statement M
 check-ack-spec = tie.close (tie.spec unsent-ok-requires gaps-ok-requires within-requires rank-requires none-requires is-negative-requires add-rows rank-requires-2 larger-requires of-requires returns)

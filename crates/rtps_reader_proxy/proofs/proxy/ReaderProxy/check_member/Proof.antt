@@ -16,7 +16,12 @@ check-gaps-requires : tie.Need-check-gaps-requires
 check-gaps-requires c κs = search needs
 
 returns : tie.Need-returns
-returns c = member-rows (c .before .before .before .before .before .args .n) (c .before .before .before .before .before .args .last) (c .before .before .before .before .before .args .self) (c .before .before .before .before .before .args .gaps .now) (c .before .before .before .is-sample .result) (c .before .before .is-beyond .result) (leb 256 (c .before .before .before .before .before .args .self .«gap_count») && c .before .before .before .before .before .args .needs) (c .check-gaps .result) (c .before .before .before .is-sample .ensures) (c .before .before .is-beyond .ensures) (c .check-gaps .ensures)
+returns c =
+    let args = c .before .before .before .before .before .args in
+    let is-sample = c .before .before .before .is-sample in
+    let is-beyond = c .before .before .is-beyond in
+    member-rows (args .n) (args .last) (args .self) (args .gaps .now) (is-sample .result) (is-beyond .result) (leb 256 (args .self .«gap_count») && args .needs) (c .check-gaps .result) (is-sample .ensures)
+    (is-beyond .ensures) (c .check-gaps .ensures)
 
 pub check-member-spec : {M : Type 1} → statement M
 check-member-spec = tie.close (tie.spec is-sample-requires is-beyond-requires check-gaps-requires returns)

@@ -17,7 +17,13 @@ check-frags-requires : tie.Need-check-frags-requires
 check-frags-requires c κs = search needs
 
 returns : tie.Need-returns
-returns c = rows-found (c .before .before .before .before .before .before .args .n) (c .before .before .before .before .before .before .args .set) (c .before .before .before .before .before .before .args .self) (c .before .before .before .before .before .before .args .samples .now) (c .before .before .before .before .before .before .args .words .now) (c .check-frags .result) (c .before .before .rank .result) (c .before .before .before .cannot-ask .result) (c .before .no-slot .result) (c .before .before .before .cannot-ask .ensures) (c .before .before .rank .ensures .is) (c .before .no-slot .ensures) (c .check-frags .ensures)
+returns c =
+    let args = c .before .before .before .before .before .before .args in
+    let cannot-ask = c .before .before .before .cannot-ask in
+    let rank = c .before .before .rank in
+    let no-slot = c .before .no-slot in
+    rows-found (args .n) (args .set) (args .self) (args .samples .now) (args .words .now) (c .check-frags .result) (rank .result) (cannot-ask .result) (no-slot .result) (cannot-ask .ensures) (rank .ensures .is)
+    (no-slot .ensures) (c .check-frags .ensures)
 
 pub check-request-spec : {M : Type 1} → statement M
 check-request-spec = tie.close (tie.spec cannot-ask-requires rank-requires no-slot-requires check-frags-requires returns)

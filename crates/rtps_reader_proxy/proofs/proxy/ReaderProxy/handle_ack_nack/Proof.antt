@@ -14,13 +14,20 @@ same-length-2 : tie.Need-same-length-2
 same-length-2 c = search needs
 
 returns : tie.Need-returns
-returns c = ack-refused (c .before .before .before .before .before .before .before .args .set) (c .before .before .before .before .before .before .before .args .last) (c .before .before .before .before .before .before .before .args .self) (c .before .before .before .before .before .before .before .args .unsent .now) (c .before .before .before .before .before .before .before .args .gaps .now) (c .before .before .check-ack .result) (c .before .before .check-ack .ensures) (c .if1 .taken)
+returns c =
+    let args = c .before .before .before .before .before .before .before .args in
+    let check-ack = c .before .before .check-ack in
+    ack-refused (args .set) (args .last) (args .self) (args .unsent .now) (args .gaps .now) (check-ack .result) (check-ack .ensures) (c .if1 .taken)
 
 rank-requires : tie.Need-rank-requires
 rank-requires c κs = search needs
 
 acknowledged-requires : tie.Need-acknowledged-requires
-acknowledged-requires c κs = ackable (c .before .before .before .before .before .before .before .before .before .before .args .set) (c .before .before .before .before .before .before .before .before .before .before .args .last) (c .before .before .before .before .before .before .before .before .before .before .args .self) (c .before .before .before .before .before .before .before .before .before .before .args .unsent .now) (c .before .before .before .before .before .before .before .before .before .before .args .gaps .now) (c .before .before .before .before .before .check-ack .result) (c .before .before .before .before .before .check-ack .ensures) (c .before .before .before .if1 .left) (c .rank .result) (c .rank .ensures .is)
+acknowledged-requires c κs =
+    let args = c .before .before .before .before .before .before .before .before .before .before .args in
+    let check-ack = c .before .before .before .before .before .check-ack in
+    let if1 = c .before .before .before .if1 in
+    ackable (args .set) (args .last) (args .self) (args .unsent .now) (args .gaps .now) (check-ack .result) (check-ack .ensures) (if1 .left) (c .rank .result) (c .rank .ensures .is)
 
 same-length-3 : tie.Need-same-length-3
 same-length-3 c = search needs
@@ -29,7 +36,14 @@ same-length-4 : tie.Need-same-length-4
 same-length-4 c = search needs
 
 returns-2 : tie.Need-returns-2
-returns-2 c = ack-done (c .before .before .before .before .before .before .before .before .before .before .before .before .before .before .before .args .set) (c .before .before .before .before .before .before .before .before .before .before .before .before .before .before .before .args .last) (c .before .before .before .before .before .before .before .before .before .before .before .before .before .before .before .args .self) (c .before .before .before .before .before .before .before .before .before .before .before .before .before .before .before .args .unsent .now) (c .before .before .before .before .before .before .before .before .before .before .before .before .before .before .before .args .gaps .now) (c .before .before .before .before .before .before .before .before .before .before .check-ack .result) (c .before .before .before .before .before .before .before .before .before .before .check-ack .ensures) (c .before .before .before .before .before .before .before .before .if1 .left) (c .before .before .before .before .before .rank .result) (c .before .before .before .before .acknowledged .result) (c .before .before .before .before .acknowledged .last .1 .0) (c .before .before .before .before .acknowledged .last .1 .1 .0) (c .before .before .before .before .before .rank .ensures .is) (c .before .before .before .before .acknowledged .ensures)
+returns-2 c =
+    let args = c .before .before .before .before .before .before .before .before .before .before .before .before .before .before .before .args in
+    let check-ack = c .before .before .before .before .before .before .before .before .before .before .check-ack in
+    let if1 = c .before .before .before .before .before .before .before .before .if1 in
+    let rank = c .before .before .before .before .before .rank in
+    let acknowledged = c .before .before .before .before .acknowledged in
+    ack-done (args .set) (args .last) (args .self) (args .unsent .now) (args .gaps .now) (check-ack .result) (check-ack .ensures) (if1 .left) (rank .result) (acknowledged .result) (acknowledged .last .1 .0)
+    (acknowledged .last .1 .1 .0) (rank .ensures .is) (acknowledged .ensures)
 
 pub handle-ack-nack-spec : {M : Type 1} → statement M
 handle-ack-nack-spec = tie.close (tie.spec check-ack-requires same-length same-length-2 returns rank-requires acknowledged-requires same-length-3 same-length-4 returns-2)

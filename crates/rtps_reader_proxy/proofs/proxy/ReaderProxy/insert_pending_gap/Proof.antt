@@ -17,7 +17,12 @@ same-length : tie.Need-same-length
 same-length c = search needs
 
 returns : tie.Need-returns
-returns c = not-inserted (c .before .before .before .before .before .before .before .before .args .n) (c .before .before .before .before .before .before .before .before .args .last) (c .before .before .before .before .before .before .before .before .args .self) (c .before .before .before .before .before .before .before .before .args .gaps .now) (c .before .before .before .before .before .before .rank .result) (c .before .before .before .before .needs-room .result) (c .before .before .check-member .result) (c .before .before .before .before .before .before .rank .ensures .is) (c .before .before .before .before .needs-room .ensures) (c .before .before .check-member .ensures) (c .if1 .taken)
+returns c =
+    let args = c .before .before .before .before .before .before .before .before .args in
+    let rank = c .before .before .before .before .before .before .rank in
+    let needs-room = c .before .before .before .before .needs-room in
+    let check-member = c .before .before .check-member in
+    not-inserted (args .n) (args .last) (args .self) (args .gaps .now) (rank .result) (needs-room .result) (check-member .result) (rank .ensures .is) (needs-room .ensures) (check-member .ensures) (c .if1 .taken)
 
 insert-requires : tie.Need-insert-requires
 insert-requires c κs = search needs
@@ -29,7 +34,15 @@ same-length-2 : tie.Need-same-length-2
 same-length-2 c = search needs
 
 returns-2 : tie.Need-returns-2
-returns-2 c = inserted (c .before .before .before .before .before .before .before .before .before .before .before .before .before .args .n) (c .before .before .before .before .before .before .before .before .before .before .before .before .before .args .last) (c .before .before .before .before .before .before .before .before .before .before .before .before .before .args .self) (c .before .before .before .before .before .before .before .before .before .before .before .before .before .args .gaps .now) (c .before .before .before .before .before .before .before .before .before .before .before .rank .result) (c .before .before .before .before .before .before .before .before .before .needs-room .result) (c .before .before .before .before .before .before .before .check-member .result) (c .before .before .before .before .before .before .before .before .before .before .before .rank .ensures .is) (c .before .before .before .before .before .before .before .before .before .needs-room .ensures) (c .before .before .before .before .before .before .before .check-member .ensures) (c .before .before .before .before .before .if1 .left) (c .before .before .before .insert .result) (c .before .before .before .insert .last .0) (c .with-members .result) (c .with-members .ensures) (c .before .before .before .insert .ensures)
+returns-2 c =
+    let args = c .before .before .before .before .before .before .before .before .before .before .before .before .before .args in
+    let rank = c .before .before .before .before .before .before .before .before .before .before .before .rank in
+    let needs-room = c .before .before .before .before .before .before .before .before .before .needs-room in
+    let check-member = c .before .before .before .before .before .before .before .check-member in
+    let if1 = c .before .before .before .before .before .if1 in
+    let insert = c .before .before .before .insert in
+    inserted (args .n) (args .last) (args .self) (args .gaps .now) (rank .result) (needs-room .result) (check-member .result) (rank .ensures .is) (needs-room .ensures) (check-member .ensures) (if1 .left) (insert .result)
+    (insert .last .0) (c .with-members .result) (c .with-members .ensures) (insert .ensures)
 
 pub insert-pending-gap-spec : {M : Type 1} → statement M
 insert-pending-gap-spec = tie.close (tie.spec rank-requires needs-room-requires check-member-requires same-length returns insert-requires with-members-requires same-length-2 returns-2)

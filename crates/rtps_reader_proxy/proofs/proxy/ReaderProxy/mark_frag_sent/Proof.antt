@@ -22,7 +22,10 @@ same-length-2 : tie.Need-same-length-2
 same-length-2 c = search needs
 
 returns : tie.Need-returns
-returns c = frags-refused (c .before .before .before .before .before .before .before .args .self) (c .before .before .before .before .before .before .before .args .samples .now) (c .before .before .before .before .before .before .before .args .words .now) [] (c .before .before .check-frags .result) (c .before .before .check-frags .ensures) (fragSent (rankOf (c .before .before .before .before .before .before .before .args .n)) (c .before .before .before .before .before .before .before .args .f .0)) (c .if1 .taken)
+returns c =
+    let args = c .before .before .before .before .before .before .before .args in
+    let check-frags = c .before .before .check-frags in
+    frags-refused (args .self) (args .samples .now) (args .words .now) [] (check-frags .result) (check-frags .ensures) (fragSent (rankOf (args .n)) (args .f .0)) (c .if1 .taken)
 
 rank-requires : tie.Need-rank-requires
 rank-requires c κs = search needs
@@ -43,7 +46,16 @@ same-length-4 : tie.Need-same-length-4
 same-length-4 c = search needs
 
 returns-2 : tie.Need-returns-2
-returns-2 c = sent-done (c .before .before .before .before .before .before .before .before .before .before .before .before .before .before .before .before .before .args .self) (c .before .before .before .before .before .before .before .before .before .before .before .before .before .before .before .before .before .args .samples .now) (c .before .before .before .before .before .before .before .before .before .before .before .before .before .before .before .before .before .args .words .now) [] (c .before .before .before .before .before .before .before .before .before .before .before .before .check-frags .result) (c .before .before .before .before .before .before .before .before .before .before .before .before .check-frags .ensures) (c .before .before .before .before .before .before .before .before .before .before .if1 .left) (rankOf (c .before .before .before .before .before .before .before .before .before .before .before .before .before .before .before .before .before .args .n)) (c .before .before .before .before .before .before .before .before .before .before .before .before .before .before .before .before .before .args .f .0) (c .before .before .before .before .before .mark-sent .result) (c .before .before .before .before .before .mark-sent .last .0) (c .before .before .before .before .before .mark-sent .last .1 .0) (c .with-frags .result) (c .with-frags .ensures) (λ (i : ℕ). omega (arith, c .before .slice-known4 .given i)) (rw (← c .before .before .before .before .before .before .before .rank .ensures .is, ← c .before .before .before .before .before .before .rank2 .ensures) (c .before .before .before .before .before .mark-sent .ensures))
+returns-2 c =
+    let args = c .before .before .before .before .before .before .before .before .before .before .before .before .before .before .before .before .before .args in
+    let check-frags = c .before .before .before .before .before .before .before .before .before .before .before .before .check-frags in
+    let if1 = c .before .before .before .before .before .before .before .before .before .before .if1 in
+    let rank = c .before .before .before .before .before .before .before .rank in
+    let rank2 = c .before .before .before .before .before .before .rank2 in
+    let mark-sent = c .before .before .before .before .before .mark-sent in
+    let slice-known4 = c .before .slice-known4 in
+    sent-done (args .self) (args .samples .now) (args .words .now) [] (check-frags .result) (check-frags .ensures) (if1 .left) (rankOf (args .n)) (args .f .0) (mark-sent .result) (mark-sent .last .0)
+    (mark-sent .last .1 .0) (c .with-frags .result) (c .with-frags .ensures) (λ (i : ℕ). omega (arith, slice-known4 .given i)) (rw (← rank .ensures .is, ← rank2 .ensures) (mark-sent .ensures))
 
 pub mark-frag-sent-spec : {M : Type 1} → statement M
 mark-frag-sent-spec = tie.close (tie.spec check-frags-requires same-length same-length-2 returns rank-requires rank-requires-2 mark-sent-requires with-frags-requires same-length-3 same-length-4 returns-2)

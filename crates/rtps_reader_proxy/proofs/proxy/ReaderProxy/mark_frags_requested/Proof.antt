@@ -16,7 +16,10 @@ same-length-2 : tie.Need-same-length-2
 same-length-2 c = search needs
 
 returns : tie.Need-returns
-returns c = request-refused (c .before .before .before .before .before .before .before .args .n) (c .before .before .before .before .before .before .before .args .set) (c .before .before .before .before .before .before .before .args .self) (c .before .before .before .before .before .before .before .args .samples .now) (c .before .before .before .before .before .before .before .args .words .now) (c .before .before .check-request .result) (c .before .before .check-request .ensures) (c .if1 .taken)
+returns c =
+    let args = c .before .before .before .before .before .before .before .args in
+    let check-request = c .before .before .check-request in
+    request-refused (args .n) (args .set) (args .self) (args .samples .now) (args .words .now) (check-request .result) (check-request .ensures) (c .if1 .taken)
 
 rank-requires : tie.Need-rank-requires
 rank-requires c κs = search needs
@@ -34,7 +37,15 @@ same-length-4 : tie.Need-same-length-4
 same-length-4 c = search needs
 
 returns-2 : tie.Need-returns-2
-returns-2 c = request-done (c .before .before .before .before .before .before .before .before .before .before .before .before .before .before .before .before .args .n) (c .before .before .before .before .before .before .before .before .before .before .before .before .before .before .before .before .args .set) (c .before .before .before .before .before .before .before .before .before .before .before .before .before .before .before .before .args .self) (c .before .before .before .before .before .before .before .before .before .before .before .before .before .before .before .before .args .samples .now) (c .before .before .before .before .before .before .before .before .before .before .before .before .before .before .before .before .args .words .now) (c .before .before .before .before .before .before .before .before .before .before .before .check-request .result) (c .before .before .before .before .before .before .before .before .before .before .before .check-request .ensures) (c .before .before .before .before .before .before .before .before .before .if1 .left) (c .before .before .before .before .before .before .rank .result) (c .before .before .before .before .before .request .result) (c .before .before .before .before .before .request .last .0) (c .before .before .before .before .before .request .last .1 .0) (c .with-frags .result) (c .before .before .before .before .before .before .rank .ensures .is) (c .with-frags .ensures) (λ (i : ℕ). omega (arith, c .before .slice-known4 .given i)) (c .before .before .before .before .before .request .ensures)
+returns-2 c =
+    let args = c .before .before .before .before .before .before .before .before .before .before .before .before .before .before .before .before .args in
+    let check-request = c .before .before .before .before .before .before .before .before .before .before .before .check-request in
+    let if1 = c .before .before .before .before .before .before .before .before .before .if1 in
+    let rank = c .before .before .before .before .before .before .rank in
+    let request = c .before .before .before .before .before .request in
+    let slice-known4 = c .before .slice-known4 in
+    request-done (args .n) (args .set) (args .self) (args .samples .now) (args .words .now) (check-request .result) (check-request .ensures) (if1 .left) (rank .result) (request .result) (request .last .0)
+    (request .last .1 .0) (c .with-frags .result) (rank .ensures .is) (c .with-frags .ensures) (λ (i : ℕ). omega (arith, slice-known4 .given i)) (request .ensures)
 
 pub mark-frags-requested-spec : {M : Type 1} → statement M
 mark-frags-requested-spec = tie.close (tie.spec check-request-requires same-length same-length-2 returns rank-requires request-requires with-frags-requires same-length-3 same-length-4 returns-2)

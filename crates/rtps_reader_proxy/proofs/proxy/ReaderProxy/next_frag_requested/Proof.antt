@@ -18,7 +18,12 @@ next-piece-requires : tie.Need-next-piece-requires
 next-piece-requires c κs = search needs
 
 returns : tie.Need-returns
-returns c = c .next-piece .ensures ∙ rw (c .before .before .none .ensures, c .before .frags-ok .ensures) (next-piece (c .before .before .before .before .before .before .args .at) (c .before .before .before .before .before .before .args .self) (c .before .before .before .before .before .before .args .samples .now) (c .before .before .before .before .before .before .args .words .now) (c .before .before .before .next .result) (c .before .before .before .next .ensures))
+returns c =
+    let args = c .before .before .before .before .before .before .args in
+    let next = c .before .before .before .next in
+    let none = c .before .before .none in
+    let frags-ok = c .before .frags-ok in
+    c .next-piece .ensures ∙ rw (none .ensures, frags-ok .ensures) (next-piece (args .at) (args .self) (args .samples .now) (args .words .now) (next .result) (next .ensures))
 
 pub next-frag-requested-spec : {M : Type 1} → statement M
 next-frag-requested-spec = tie.close (tie.spec next-requires none-requires frags-ok-requires next-piece-requires returns)

@@ -39,9 +39,18 @@ of-requires c κs = search needs
 
 returns : tie.Need-returns
 returns c =
-    rw (c .of .ensures, c .before .before .none .ensures, c .before .gaps-ok .ensures)
-    (next-gap (c .before .before .before .before .before .before .before .before .before .before .args .at) (c .before .before .before .before .before .before .before .before .before .before .args .self) (c .before .before .before .before .before .before .before .before .before .before .args .gaps .now) (c .before .before .before .before .before .before .larger2 .result) (c .before .before .before .before .first-from .result) (c .before .before .before .first-gap .result)
-    (c .before .before .before .before .before .before .larger2 .ensures ∙ ap (max (c .before .before .before .before .before .before .before .before .before .before .args .at .from)) (c .before .before .before .before .before .before .before .larger .ensures ∙ ap (max 1) (c .before .before .before .before .before .before .before .before .rank .ensures .is))) (c .before .before .before .before .first-from .ensures) (c .before .before .before .first-gap .ensures ∙ rw (c .before .before .before .before .before .rank2 .ensures .is)))
+    let args = c .before .before .before .before .before .before .before .before .before .before .args in
+    let rank = c .before .before .before .before .before .before .before .before .rank in
+    let larger = c .before .before .before .before .before .before .before .larger in
+    let larger2 = c .before .before .before .before .before .before .larger2 in
+    let rank2 = c .before .before .before .before .before .rank2 in
+    let first-from = c .before .before .before .before .first-from in
+    let first-gap = c .before .before .before .first-gap in
+    let none = c .before .before .none in
+    let gaps-ok = c .before .gaps-ok in
+    rw (c .of .ensures, none .ensures, gaps-ok .ensures)
+    (next-gap (args .at) (args .self) (args .gaps .now) (larger2 .result) (first-from .result) (first-gap .result)
+    (larger2 .ensures ∙ ap (max (args .at .from)) (larger .ensures ∙ ap (max 1) (rank .ensures .is))) (first-from .ensures) (first-gap .ensures ∙ rw (rank2 .ensures .is)))
 
 pub next-pending-gap-spec : {M : Type 1} → statement M
 next-pending-gap-spec =

@@ -23,7 +23,12 @@ of-requires : tie.Need-of-requires
 of-requires c κs = search needs
 
 returns : tie.Need-returns
-returns c = rw (c .of .ensures, c .before .before .none .ensures, c .before .unsent-ok .ensures) (next-unsent (c .before .before .before .before .before .args .at) (c .before .before .before .before .before .args .self) (c .before .before .before .before .before .args .unsent .now) (c .before .before .before .first-from .result) (c .before .before .before .first-from .ensures))
+returns c =
+    let args = c .before .before .before .before .before .args in
+    let first-from = c .before .before .before .first-from in
+    let none = c .before .before .none in
+    let unsent-ok = c .before .unsent-ok in
+    rw (c .of .ensures, none .ensures, unsent-ok .ensures) (next-unsent (args .at) (args .self) (args .unsent .now) (first-from .result) (first-from .ensures))
 
 pub next-unsent-change-spec : {M : Type 1} → statement M
 next-unsent-change-spec =

@@ -26,7 +26,11 @@ holds-requires : tie.Need-holds-requires
 holds-requires c κs = search needs
 
 returns : tie.Need-returns
-returns c = slot-is (c .before .before .before .before .before .args .n) (c .before .before .before .before .before .args .set) (c .before .before .before .before .before .args .self) (c .before .before .before .before .before .args .samples .now) (c .before .before .before .before .before .args .words .now) (c .before .before .size .result) (c .before .holds .result) (c .before .before .size .ensures) (c .before .holds .ensures)
+returns c =
+    let args = c .before .before .before .before .before .args in
+    let size = c .before .before .size in
+    let holds = c .before .holds in
+    slot-is (args .n) (args .set) (args .self) (args .samples .now) (args .words .now) (size .result) (holds .result) (size .ensures) (holds .ensures)
 
 pub no-slot-spec : {M : Type 1} → statement M
 no-slot-spec = tie.close (tie.spec size-requires holds-requires returns)

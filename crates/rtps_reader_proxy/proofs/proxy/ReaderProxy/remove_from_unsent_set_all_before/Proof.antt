@@ -17,7 +17,10 @@ same-length : tie.Need-same-length
 same-length c = search needs
 
 returns : tie.Need-returns
-returns c = unsent-refused (c .before .before .before .before .before .args .self) (c .before .before .before .before .before .args .unsent .now) (row 2 false ∷ []) (c .before .before .check-unsent .result) (c .before .before .check-unsent .ensures) (removedBefore (rankOf (c .before .before .before .before .before .args .n))) (c .if1 .taken)
+returns c =
+    let args = c .before .before .before .before .before .args in
+    let check-unsent = c .before .before .check-unsent in
+    unsent-refused (args .self) (args .unsent .now) (row 2 false ∷ []) (check-unsent .result) (check-unsent .ensures) (removedBefore (rankOf (args .n))) (c .if1 .taken)
 
 rank-requires : tie.Need-rank-requires
 rank-requires c κs = search needs
@@ -32,7 +35,14 @@ same-length-2 : tie.Need-same-length-2
 same-length-2 c = search needs
 
 returns-2 : tie.Need-returns-2
-returns-2 c = before-done (c .before .before .before .before .before .before .before .before .before .before .before .args .self) (c .before .before .before .before .before .before .before .before .before .before .before .args .unsent .now) (row 2 false ∷ []) (c .before .before .before .before .before .before .before .before .check-unsent .result) (c .before .before .before .before .before .before .before .before .check-unsent .ensures) (c .before .before .before .before .before .before .if1 .left) (rankOf (c .before .before .before .before .before .before .before .before .before .before .before .args .n)) (c .before .before .before .keep-from .result) (c .before .before .before .keep-from .last .0) (c .with-unsent .result) (c .with-unsent .ensures) (rw (← c .before .before .before .before .rank .ensures .is) (c .before .before .before .keep-from .ensures))
+returns-2 c =
+    let args = c .before .before .before .before .before .before .before .before .before .before .before .args in
+    let check-unsent = c .before .before .before .before .before .before .before .before .check-unsent in
+    let if1 = c .before .before .before .before .before .before .if1 in
+    let rank = c .before .before .before .before .rank in
+    let keep-from = c .before .before .before .keep-from in
+    before-done (args .self) (args .unsent .now) (row 2 false ∷ []) (check-unsent .result) (check-unsent .ensures) (if1 .left) (rankOf (args .n)) (keep-from .result) (keep-from .last .0) (c .with-unsent .result)
+    (c .with-unsent .ensures) (rw (← rank .ensures .is) (keep-from .ensures))
 
 pub remove-from-unsent-set-all-before-spec : {M : Type 1} → statement M
 remove-from-unsent-set-all-before-spec = tie.close (tie.spec check-unsent-requires same-length returns rank-requires keep-from-requires with-unsent-requires same-length-2 returns-2)

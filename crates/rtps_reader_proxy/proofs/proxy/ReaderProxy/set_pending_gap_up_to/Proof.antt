@@ -17,7 +17,12 @@ same-length : tie.Need-same-length
 same-length c = search needs
 
 returns : tie.Need-returns
-returns c = up-to-refused (c .before .before .before .before .before .before .before .args .e) (c .before .before .before .before .before .before .before .args .last) (c .before .before .before .before .before .before .before .args .self) (c .before .before .before .before .before .before .before .args .gaps .now) (c .before .before .before .before .before .is-negative .result) (c .before .before .before .before .is-beyond .result) (c .before .before .check-gaps .result) (c .before .before .before .before .before .is-negative .ensures) (c .before .before .before .before .is-beyond .ensures) (c .before .before .check-gaps .ensures) (c .if1 .taken)
+returns c =
+    let args = c .before .before .before .before .before .before .before .args in
+    let is-negative = c .before .before .before .before .before .is-negative in
+    let is-beyond = c .before .before .before .before .is-beyond in
+    let check-gaps = c .before .before .check-gaps in
+    up-to-refused (args .e) (args .last) (args .self) (args .gaps .now) (is-negative .result) (is-beyond .result) (check-gaps .result) (is-negative .ensures) (is-beyond .ensures) (check-gaps .ensures) (c .if1 .taken)
 
 rank-requires : tie.Need-rank-requires
 rank-requires c κs = search needs
@@ -35,7 +40,16 @@ same-length-2 : tie.Need-same-length-2
 same-length-2 c = search needs
 
 returns-2 : tie.Need-returns-2
-returns-2 c = up-to (c .before .before .before .before .before .before .before .before .before .before .before .before .before .args .e) (c .before .before .before .before .before .before .before .before .before .before .before .before .before .args .last) (c .before .before .before .before .before .before .before .before .before .before .before .before .before .args .self) (c .before .before .before .before .before .before .before .before .before .before .before .before .before .args .gaps .now) (c .before .before .before .before .before .before .before .before .before .before .before .is-negative .result) (c .before .before .before .before .before .before .before .before .before .before .is-beyond .result) (c .before .before .before .before .before .before .before .before .check-gaps .result) (c .before .before .before .before .before .before .before .before .before .before .before .is-negative .ensures) (c .before .before .before .before .before .before .before .before .before .before .is-beyond .ensures) (c .before .before .before .before .before .before .before .before .check-gaps .ensures) (c .before .before .before .before .before .before .if1 .left) (c .before .before .before .before .before .rank .result) (c .before .before .before .keep-from .result) (c .before .before .before .keep-from .last .0) (c .with-prefix .result) (c .before .before .before .before .before .rank .ensures .is) (c .with-prefix .ensures) (c .before .before .before .keep-from .ensures)
+returns-2 c =
+    let args = c .before .before .before .before .before .before .before .before .before .before .before .before .before .args in
+    let is-negative = c .before .before .before .before .before .before .before .before .before .before .before .is-negative in
+    let is-beyond = c .before .before .before .before .before .before .before .before .before .before .is-beyond in
+    let check-gaps = c .before .before .before .before .before .before .before .before .check-gaps in
+    let if1 = c .before .before .before .before .before .before .if1 in
+    let rank = c .before .before .before .before .before .rank in
+    let keep-from = c .before .before .before .keep-from in
+    up-to (args .e) (args .last) (args .self) (args .gaps .now) (is-negative .result) (is-beyond .result) (check-gaps .result) (is-negative .ensures) (is-beyond .ensures) (check-gaps .ensures) (if1 .left) (rank .result)
+    (keep-from .result) (keep-from .last .0) (c .with-prefix .result) (rank .ensures .is) (c .with-prefix .ensures) (keep-from .ensures)
 
 pub set-pending-gap-up-to-spec : {M : Type 1} → statement M
 set-pending-gap-up-to-spec = tie.close (tie.spec is-negative-requires is-beyond-requires check-gaps-requires same-length returns rank-requires add-keep-from keep-from-requires with-prefix-requires same-length-2 returns-2)

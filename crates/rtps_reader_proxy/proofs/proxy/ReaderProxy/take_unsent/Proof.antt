@@ -14,16 +14,28 @@ same-length : tie.Need-same-length
 same-length c = search needs
 
 returns : tie.Need-returns
-returns c = take-refused (c .before .before .before .before .before .before .args .self) (c .before .before .before .before .before .before .args .unsent .now) (c .before .before .before .before .before .before .args .out .now) (c .before .before .check-unsent .result) (c .before .before .check-unsent .ensures) (c .if1 .taken)
+returns c =
+    let args = c .before .before .before .before .before .before .args in
+    let check-unsent = c .before .before .check-unsent in
+    take-refused (args .self) (args .unsent .now) (args .out .now) (check-unsent .result) (check-unsent .ensures) (c .if1 .taken)
 
 smaller-requires : tie.Need-smaller-requires
 smaller-requires c κs = search needs
 
 slice-reshare-prefix-copy : tie.Need-slice-reshare-prefix-copy
-slice-reshare-prefix-copy c = take-in (c .before .before .before .before .before .before .before .args .self) (c .before .before .before .before .before .before .before .args .unsent .now) (c .before .before .before .before .before .before .before .args .out .now) (c .before .before .before .check-unsent .result) (c .before .before .before .check-unsent .ensures) (c .before .if1 .left) (c .smaller .result) (c .smaller .ensures)
+slice-reshare-prefix-copy c =
+    let args = c .before .before .before .before .before .before .before .args in
+    let check-unsent = c .before .before .before .check-unsent in
+    let if1 = c .before .if1 in
+    take-in (args .self) (args .unsent .now) (args .out .now) (check-unsent .result) (check-unsent .ensures) (if1 .left) (c .smaller .result) (c .smaller .ensures)
 
 slice-aggregate-copy : tie.Need-slice-aggregate-copy
-slice-aggregate-copy c = sym (length-take-le (c .before .smaller .result) (c .before .before .before .before .before .before .before .before .args .unsent .now) (take-in (c .before .before .before .before .before .before .before .before .args .self) (c .before .before .before .before .before .before .before .before .args .unsent .now) (c .before .before .before .before .before .before .before .before .args .out .now) (c .before .before .before .before .check-unsent .result) (c .before .before .before .before .check-unsent .ensures) (c .before .before .if1 .left) (c .before .smaller .result) (c .before .smaller .ensures)))
+slice-aggregate-copy c =
+    let args = c .before .before .before .before .before .before .before .before .args in
+    let check-unsent = c .before .before .before .before .check-unsent in
+    let if1 = c .before .before .if1 in
+    let smaller = c .before .smaller in
+    sym (length-take-le (smaller .result) (args .unsent .now) (take-in (args .self) (args .unsent .now) (args .out .now) (check-unsent .result) (check-unsent .ensures) (if1 .left) (smaller .result) (smaller .ensures)))
 
 copy-requires : tie.Need-copy-requires
 copy-requires c κs = search needs
@@ -41,7 +53,15 @@ same-length-3 : tie.Need-same-length-3
 same-length-3 c = search needs
 
 returns-2 : tie.Need-returns-2
-returns-2 c = take-done (c .before .before .before .before .before .before .before .before .before .before .before .before .before .before .before .before .before .args .self) (c .before .before .before .before .before .before .before .before .before .before .before .before .before .before .before .before .before .args .unsent .now) (c .before .before .before .before .before .before .before .before .before .before .before .before .before .before .before .before .before .args .out .now) (c .before .before .before .before .before .before .before .before .before .before .before .before .before .check-unsent .result) (c .before .before .before .before .before .before .before .before .before .before .before .before .before .check-unsent .ensures) (c .before .before .before .before .before .before .before .before .before .before .before .if1 .left) (c .before .before .before .before .before .before .before .before .before .before .smaller .result) (c .before .before .before .cut .result) (c .before .before .before .cut .last .0) (c .before .before .before .before .before .before .before .copy .last .1 .0) (c .with-taken .result) (c .before .before .before .before .before .before .before .before .before .before .smaller .ensures) (c .before .before .before .before .before .before .before .copy .ensures) (c .before .before .before .cut .ensures) (c .with-taken .ensures)
+returns-2 c =
+    let args = c .before .before .before .before .before .before .before .before .before .before .before .before .before .before .before .before .before .args in
+    let check-unsent = c .before .before .before .before .before .before .before .before .before .before .before .before .before .check-unsent in
+    let if1 = c .before .before .before .before .before .before .before .before .before .before .before .if1 in
+    let smaller = c .before .before .before .before .before .before .before .before .before .before .smaller in
+    let copy = c .before .before .before .before .before .before .before .copy in
+    let cut = c .before .before .before .cut in
+    take-done (args .self) (args .unsent .now) (args .out .now) (check-unsent .result) (check-unsent .ensures) (if1 .left) (smaller .result) (cut .result) (cut .last .0) (copy .last .1 .0) (c .with-taken .result)
+    (smaller .ensures) (copy .ensures) (cut .ensures) (c .with-taken .ensures)
 
 pub take-unsent-spec : {M : Type 1} → statement M
 take-unsent-spec = tie.close (tie.spec check-unsent-requires same-length returns smaller-requires slice-reshare-prefix-copy slice-aggregate-copy copy-requires cut-requires with-taken-requires same-length-2 same-length-3 returns-2)

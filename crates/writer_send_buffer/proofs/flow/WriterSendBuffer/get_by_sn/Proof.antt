@@ -13,7 +13,9 @@ locate-requires c κs = search needs
 
 add-e : tie.Need-add-e
 add-e c =
-    let h : c .before .locate .result .start + c .before .locate .result .length ≤ length (c .before .before .before .before .args .store .now) = rw (c .before .locate .ensures) (located-in (c .before .before .before .before .args .self) (length (c .before .before .before .before .args .store .now)) (c .before .before .before .before .args .lens .now) (c .before .before .before .before .args .number)) in
+    let args = c .before .before .before .before .args in
+    let locate = c .before .locate in
+    let h : locate .result .start + locate .result .length ≤ length (args .store .now) = rw (locate .ensures) (located-in (args .self) (length (args .store .now)) (args .lens .now) (args .number)) in
     omega arith
 
 sub-result : tie.Need-sub-result
@@ -24,11 +26,16 @@ part-result-start c = search needs
 
 part-result-end : tie.Need-part-result-end
 part-result-end c =
-    let h : c .before .locate .result .start + c .before .locate .result .length ≤ length (c .before .before .before .before .args .store .now) = rw (c .before .locate .ensures) (located-in (c .before .before .before .before .args .self) (length (c .before .before .before .before .args .store .now)) (c .before .before .before .before .args .lens .now) (c .before .before .before .before .args .number)) in
+    let args = c .before .before .before .before .args in
+    let locate = c .before .locate in
+    let h : locate .result .start + locate .result .length ≤ length (args .store .now) = rw (locate .ensures) (located-in (args .self) (length (args .store .now)) (args .lens .now) (args .number)) in
     h
 
 returns : tie.Need-returns
-returns c = rw (c .before .before .locate .ensures) (shown-is (c .before .before .before .before .before .args .self) (length (c .before .before .before .before .before .args .store .now)) (c .before .before .before .before .before .args .lens .now) (c .before .before .before .before .before .args .number) (c .before .before .before .before .before .args .store .now) refl)
+returns c =
+    let args = c .before .before .before .before .before .args in
+    let locate = c .before .before .locate in
+    rw (locate .ensures) (shown-is (args .self) (length (args .store .now)) (args .lens .now) (args .number) (args .store .now) refl)
 
 pub get-by-sn-spec : {M : Type 1} → statement M
 get-by-sn-spec =

@@ -17,13 +17,25 @@ range-answer-requires : tie.Need-range-answer-requires
 range-answer-requires c κs = search needs
 
 returns : tie.Need-returns
-returns c = refused (c .before .before .before .before .args .self) (c .before .before .before .is-coherent .result) (false) (false) (c .before .before .before .is-coherent .ensures) (refl) (c .before .before .range-answer .result) (c .before .before .range-answer .ensures) (toldNo) (record { answer = done; yes = room (view (c .before .before .before .before .args .self)) (c .before .before .before .before .args .opted) }) (c .if1 .taken)
+returns c =
+    let args = c .before .before .before .before .args in
+    let is-coherent = c .before .before .before .is-coherent in
+    let range-answer = c .before .before .range-answer in
+    refused (args .self) (is-coherent .result) (false) (false) (is-coherent .ensures) (refl) (range-answer .result) (range-answer .ensures) (toldNo)
+    (record { answer = done; yes = room (view (args .self)) (args .opted) }) (c .if1 .taken)
 
 room-for-requires : tie.Need-room-for-requires
 room-for-requires c κs = search needs
 
 returns-2 : tie.Need-returns-2
-returns-2 c = rw (done-is (c .before .before .before .range-answer .result) (c .before .if1 .left), c .room-for .ensures) (finished (c .before .before .before .before .before .args .self) (c .before .before .before .before .is-coherent .result) (false) (false) (c .before .before .before .before .is-coherent .ensures) (refl) (c .before .before .before .range-answer .result) (c .before .before .before .range-answer .ensures) (toldNo) (record { answer = done; yes = room (view (c .before .before .before .before .before .args .self)) (c .before .before .before .before .before .args .opted) }) (c .before .if1 .left))
+returns-2 c =
+    let args = c .before .before .before .before .before .args in
+    let is-coherent = c .before .before .before .before .is-coherent in
+    let range-answer = c .before .before .before .range-answer in
+    let if1 = c .before .if1 in
+    rw (done-is (range-answer .result) (if1 .left), c .room-for .ensures)
+    (finished (args .self) (is-coherent .result) (false) (false) (is-coherent .ensures) (refl) (range-answer .result) (range-answer .ensures) (toldNo)
+    (record { answer = done; yes = room (view (args .self)) (args .opted) }) (if1 .left))
 
 pub has-room-spec : {M : Type 1} → statement M
 has-room-spec =

@@ -26,10 +26,24 @@ range-answer-requires : tie.Need-range-answer-requires
 range-answer-requires c κs = search needs
 
 returns : tie.Need-returns
-returns c = refused (c .before .before .before .before .before .before .args .self) (c .before .before .before .is-coherent .result) (false) (false) (c .before .before .before .is-coherent .ensures) (refl) (c .before .before .range-answer .result) (c .before .before .range-answer .ensures) (toldNo) (record { answer = done; yes = ackedThrough (rankOf (c .before .before .before .before .before .before .args .number)) (view (c .before .before .before .before .before .before .args .self)) }) (c .if1 .taken)
+returns c =
+    let args = c .before .before .before .before .before .before .args in
+    let is-coherent = c .before .before .before .is-coherent in
+    let range-answer = c .before .before .range-answer in
+    refused (args .self) (is-coherent .result) (false) (false) (is-coherent .ensures) (refl) (range-answer .result) (range-answer .ensures) (toldNo)
+    (record { answer = done; yes = ackedThrough (rankOf (args .number)) (view (args .self)) }) (c .if1 .taken)
 
 returns-2 : tie.Need-returns-2
-returns-2 c = rw (done-is (c .before .before .before .range-answer .result) (c .before .if1 .left), c .before .before .before .before .before .before .rank .ensures .is, c .before .before .before .before .before .rank2 .ensures .is) (finished (c .before .before .before .before .before .before .before .args .self) (c .before .before .before .before .is-coherent .result) (false) (false) (c .before .before .before .before .is-coherent .ensures) (refl) (c .before .before .before .range-answer .result) (c .before .before .before .range-answer .ensures) (toldNo) (record { answer = done; yes = ackedThrough (rankOf (c .before .before .before .before .before .before .before .args .number)) (view (c .before .before .before .before .before .before .before .args .self)) }) (c .before .if1 .left))
+returns-2 c =
+    let args = c .before .before .before .before .before .before .before .args in
+    let rank = c .before .before .before .before .before .before .rank in
+    let rank2 = c .before .before .before .before .before .rank2 in
+    let is-coherent = c .before .before .before .before .is-coherent in
+    let range-answer = c .before .before .before .range-answer in
+    let if1 = c .before .if1 in
+    rw (done-is (range-answer .result) (if1 .left), rank .ensures .is, rank2 .ensures .is)
+    (finished (args .self) (is-coherent .result) (false) (false) (is-coherent .ensures) (refl) (range-answer .result) (range-answer .ensures) (toldNo)
+    (record { answer = done; yes = ackedThrough (rankOf (args .number)) (view (args .self)) }) (if1 .left))
 
 pub is-acked-through-spec : {M : Type 1} → statement M
 is-acked-through-spec =

@@ -39,7 +39,15 @@ add-result-2 : tie.Need-add-result-2
 add-result-2 c = search needs
 
 returns : tie.Need-returns
-returns c = rw (c .above .ensures, c .before .are-allowed .ensures, c .before .before .before .is-negative2 .ensures, c .before .before .before .before .is-negative .ensures, ← c .before .before .before .before .before .rank4 .ensures .is, ← c .before .before .before .before .before .before .rank3 .ensures .is, ← c .before .before .before .before .before .before .before .rank2 .ensures .is, ← c .before .before .before .before .before .before .before .before .rank .ensures .is)
+returns c =
+    let rank = c .before .before .before .before .before .before .before .before .rank in
+    let rank2 = c .before .before .before .before .before .before .before .rank2 in
+    let rank3 = c .before .before .before .before .before .before .rank3 in
+    let rank4 = c .before .before .before .before .before .rank4 in
+    let is-negative = c .before .before .before .before .is-negative in
+    let is-negative2 = c .before .before .before .is-negative2 in
+    let are-allowed = c .before .are-allowed in
+    rw (c .above .ensures, are-allowed .ensures, is-negative2 .ensures, is-negative .ensures, ← rank4 .ensures .is, ← rank3 .ensures .is, ← rank2 .ensures .is, ← rank .ensures .is)
 
 pub is-coherent-spec : {M : Type 1} → statement M
 is-coherent-spec =

@@ -46,11 +46,24 @@ above-requires c κs = search needs
 
 lengths-fit-requires : tie.Need-lengths-fit-requires
 lengths-fit-requires c κs =
-    let co = coherent-is (c .before .before .before .before .before .before .before .before .before .args .self) (sym (c .before .before .before .before .before .before .is-coherent .ensures) ∙ not-false (c .before .before .before .before .before .before .is-coherent .result) (c .before .before .before .before .before .if1 .left)) in
-    record { some = omega (arith, co .limits .slots-some); small = omega (arith, co .numbers .first-some, co .numbers .first-in, co .numbers .last-most, c .above .ensures, c .before .rank2 .ensures .is, c .before .before .rank .ensures .is) }
+    let args = c .before .before .before .before .before .before .before .before .before .args in
+    let is-coherent = c .before .before .before .before .before .before .is-coherent in
+    let if1 = c .before .before .before .before .before .if1 in
+    let rank = c .before .before .rank in
+    let rank2 = c .before .rank2 in
+    let co = coherent-is (args .self) (sym (is-coherent .ensures) ∙ not-false (is-coherent .result) (if1 .left)) in
+    record { some = omega (arith, co .limits .slots-some); small = omega (arith, co .numbers .first-some, co .numbers .first-in, co .numbers .last-most, c .above .ensures, rank2 .ensures .is, rank .ensures .is) }
 
 returns-4 : tie.Need-returns-4
-returns-4 c = rw (sym (c .before .before .before .before .before .before .before .is-coherent .ensures) ∙ not-false (c .before .before .before .before .before .before .before .is-coherent .result) (c .before .before .before .before .before .before .if1 .left), eq-eqb _ _ (c .before .before .before .before .before .if2 .left), eq-eqb _ _ (c .before .before .before .before .if3 .left), c .lengths-fit .ensures, c .before .above .ensures, c .before .before .rank2 .ensures .is, c .before .before .before .rank .ensures .is)
+returns-4 c =
+    let is-coherent = c .before .before .before .before .before .before .before .is-coherent in
+    let if1 = c .before .before .before .before .before .before .if1 in
+    let if2 = c .before .before .before .before .before .if2 in
+    let if3 = c .before .before .before .before .if3 in
+    let rank = c .before .before .before .rank in
+    let rank2 = c .before .before .rank2 in
+    let above = c .before .above in
+    rw (sym (is-coherent .ensures) ∙ not-false (is-coherent .result) (if1 .left), eq-eqb _ _ (if2 .left), eq-eqb _ _ (if3 .left), c .lengths-fit .ensures, above .ensures, rank2 .ensures .is, rank .ensures .is)
 
 pub is-coherent-store-spec : {M : Type 1} → statement M
 is-coherent-store-spec =

@@ -21,10 +21,22 @@ from-rank-requires : tie.Need-from-rank-requires
 from-rank-requires c κs = search needs
 
 returns : tie.Need-returns
-returns c = rw (c .from-rank .ensures) (refused (c .before .before .before .before .before .args .self) (c .before .before .before .before .is-coherent .result) (false) (false) (c .before .before .before .before .is-coherent .ensures) (refl) (c .before .before .before .range-answer .result) (c .before .before .before .range-answer .ensures) (noNumber) (record { answer = done; number = c .before .before .before .before .before .args .self .last }) (c .before .if1 .taken))
+returns c =
+    let args = c .before .before .before .before .before .args in
+    let is-coherent = c .before .before .before .before .is-coherent in
+    let range-answer = c .before .before .before .range-answer in
+    let if1 = c .before .if1 in
+    rw (c .from-rank .ensures) (refused (args .self) (is-coherent .result) (false) (false) (is-coherent .ensures) (refl) (range-answer .result) (range-answer .ensures) (noNumber)
+    (record { answer = done; number = args .self .last }) (if1 .taken))
 
 returns-2 : tie.Need-returns-2
-returns-2 c = rw (done-is (c .before .before .before .range-answer .result) (c .before .if1 .left)) (finished (c .before .before .before .before .before .args .self) (c .before .before .before .before .is-coherent .result) (false) (false) (c .before .before .before .before .is-coherent .ensures) (refl) (c .before .before .before .range-answer .result) (c .before .before .before .range-answer .ensures) (noNumber) (record { answer = done; number = c .before .before .before .before .before .args .self .last }) (c .before .if1 .left))
+returns-2 c =
+    let args = c .before .before .before .before .before .args in
+    let is-coherent = c .before .before .before .before .is-coherent in
+    let range-answer = c .before .before .before .range-answer in
+    let if1 = c .before .if1 in
+    rw (done-is (range-answer .result) (if1 .left)) (finished (args .self) (is-coherent .result) (false) (false) (is-coherent .ensures) (refl) (range-answer .result) (range-answer .ensures) (noNumber)
+    (record { answer = done; number = args .self .last }) (if1 .left))
 
 pub last-change-sequence-number-spec : {M : Type 1} → statement M
 last-change-sequence-number-spec =

@@ -34,53 +34,111 @@ fetch-answer-requires c κs = search needs
 
 returns : tie.Need-returns
 returns c =
-    let f = c .before .before .before .before .before .before .before .before .args .self in
-    let q : c .before .before .fetch-answer .result ≡ answerOf (fetchRows f (c .before .before .before .before .before .before .before .before .args .room) (c .before .before .before .before .before .before .before .before .args .lens .now) (c .before .before .before .before .before .before .before .before .args .number)) = c .before .before .fetch-answer .ensures ∙ (λ i. answerOf (fetched (c .before .before .before .is-coherent-store .ensures i) (leb (c .before .before .before .before .rank3 .ensures .is i) (c .before .before .before .before .before .before .rank .ensures .is i) && leb (c .before .before .before .before .before .before .rank .ensures .is i) (c .before .before .before .before .before .rank2 .ensures .is i)))) in
-    is-refused {A = Located} (fetchRows f (c .before .before .before .before .before .before .before .before .args .room) (c .before .before .before .before .before .before .before .before .args .lens .now) (c .before .before .before .before .before .before .before .before .args .number)) (c .before .before .fetch-answer .result) q (λ no. record { answer = no; start = 0; length = 0 }) (record { answer = done; start = startOf (view f) (rankOf (c .before .before .before .before .before .before .before .before .args .number)); length = getD (c .before .before .before .before .before .before .before .before .args .lens .now) (slotOf (view f) (rankOf (c .before .before .before .before .before .before .before .before .args .number))) 0 }) (c .if1 .taken)
+    let args = c .before .before .before .before .before .before .before .before .args in
+    let rank = c .before .before .before .before .before .before .rank in
+    let rank2 = c .before .before .before .before .before .rank2 in
+    let rank3 = c .before .before .before .before .rank3 in
+    let is-coherent-store = c .before .before .before .is-coherent-store in
+    let fetch-answer = c .before .before .fetch-answer in
+    let f = args .self in
+    let q : fetch-answer .result ≡ answerOf (fetchRows f (args .room) (args .lens .now) (args .number)) = fetch-answer .ensures
+    ∙ (λ i. answerOf (fetched (is-coherent-store .ensures i) (leb (rank3 .ensures .is i) (rank .ensures .is i) && leb (rank .ensures .is i) (rank2 .ensures .is i)))) in
+    is-refused {A = Located} (fetchRows f (args .room) (args .lens .now) (args .number)) (fetch-answer .result) q (λ no. record { answer = no; start = 0; length = 0 })
+    (record { answer = done; start = startOf (view f) (rankOf (args .number)); length = getD (args .lens .now) (slotOf (view f) (rankOf (args .number))) 0 }) (c .if1 .taken)
 
 sub-slot : tie.Need-sub-slot
 sub-slot c =
-    let f = c .before .before .before .before .before .before .before .before .before .args .self in
-    let q : c .before .before .before .fetch-answer .result ≡ answerOf (fetchRows f (c .before .before .before .before .before .before .before .before .before .args .room) (c .before .before .before .before .before .before .before .before .before .args .lens .now) (c .before .before .before .before .before .before .before .before .before .args .number)) = c .before .before .before .fetch-answer .ensures ∙ (λ i. answerOf (fetched (c .before .before .before .before .is-coherent-store .ensures i) (leb (c .before .before .before .before .before .rank3 .ensures .is i) (c .before .before .before .before .before .before .before .rank .ensures .is i) && leb (c .before .before .before .before .before .before .before .rank .ensures .is i) (c .before .before .before .before .before .before .rank2 .ensures .is i)))) in
-    let k = fetches-is f (c .before .before .before .before .before .before .before .before .before .args .room) (c .before .before .before .before .before .before .before .before .before .args .lens .now) (c .before .before .before .before .before .before .before .before .before .args .number) (clear (fetchRows f (c .before .before .before .before .before .before .before .before .before .args .room) (c .before .before .before .before .before .before .before .before .before .args .lens .now) (c .before .before .before .before .before .before .before .before .before .args .number)) (c .before .before .before .fetch-answer .result) q (c .before .if1 .left)) in
-    omega (arith, k .sound .flow .numbers .first-some, k .low, c .before .before .before .before .before .before .before .rank .ensures .is)
+    let args = c .before .before .before .before .before .before .before .before .before .args in
+    let rank = c .before .before .before .before .before .before .before .rank in
+    let rank2 = c .before .before .before .before .before .before .rank2 in
+    let rank3 = c .before .before .before .before .before .rank3 in
+    let is-coherent-store = c .before .before .before .before .is-coherent-store in
+    let fetch-answer = c .before .before .before .fetch-answer in
+    let if1 = c .before .if1 in
+    let f = args .self in
+    let q : fetch-answer .result ≡ answerOf (fetchRows f (args .room) (args .lens .now) (args .number)) = fetch-answer .ensures
+    ∙ (λ i. answerOf (fetched (is-coherent-store .ensures i) (leb (rank3 .ensures .is i) (rank .ensures .is i) && leb (rank .ensures .is i) (rank2 .ensures .is i)))) in
+    let k = fetches-is f (args .room) (args .lens .now) (args .number) (clear (fetchRows f (args .room) (args .lens .now) (args .number)) (fetch-answer .result) q (if1 .left)) in
+    omega (arith, k .sound .flow .numbers .first-some, k .low, rank .ensures .is)
 
 rem-slot : tie.Need-rem-slot
 rem-slot c =
-    let f = c .before .before .before .before .before .before .before .before .before .before .args .self in
-    let q : c .before .before .before .before .fetch-answer .result ≡ answerOf (fetchRows f (c .before .before .before .before .before .before .before .before .before .before .args .room) (c .before .before .before .before .before .before .before .before .before .before .args .lens .now) (c .before .before .before .before .before .before .before .before .before .before .args .number)) = c .before .before .before .before .fetch-answer .ensures ∙ (λ i. answerOf (fetched (c .before .before .before .before .before .is-coherent-store .ensures i) (leb (c .before .before .before .before .before .before .rank3 .ensures .is i) (c .before .before .before .before .before .before .before .before .rank .ensures .is i) && leb (c .before .before .before .before .before .before .before .before .rank .ensures .is i) (c .before .before .before .before .before .before .before .rank2 .ensures .is i)))) in
-    let k = fetches-is f (c .before .before .before .before .before .before .before .before .before .before .args .room) (c .before .before .before .before .before .before .before .before .before .before .args .lens .now) (c .before .before .before .before .before .before .before .before .before .before .args .number) (clear (fetchRows f (c .before .before .before .before .before .before .before .before .before .before .args .room) (c .before .before .before .before .before .before .before .before .before .before .args .lens .now) (c .before .before .before .before .before .before .before .before .before .before .args .number)) (c .before .before .before .before .fetch-answer .result) q (c .before .before .if1 .left)) in
+    let args = c .before .before .before .before .before .before .before .before .before .before .args in
+    let rank = c .before .before .before .before .before .before .before .before .rank in
+    let rank2 = c .before .before .before .before .before .before .before .rank2 in
+    let rank3 = c .before .before .before .before .before .before .rank3 in
+    let is-coherent-store = c .before .before .before .before .before .is-coherent-store in
+    let fetch-answer = c .before .before .before .before .fetch-answer in
+    let if1 = c .before .before .if1 in
+    let f = args .self in
+    let q : fetch-answer .result ≡ answerOf (fetchRows f (args .room) (args .lens .now) (args .number)) = fetch-answer .ensures
+    ∙ (λ i. answerOf (fetched (is-coherent-store .ensures i) (leb (rank3 .ensures .is i) (rank .ensures .is i) && leb (rank .ensures .is i) (rank2 .ensures .is i)))) in
+    let k = fetches-is f (args .room) (args .lens .now) (args .number) (clear (fetchRows f (args .room) (args .lens .now) (args .number)) (fetch-answer .result) q (if1 .left)) in
     omega (arith, k .sound .flow .limits .slots-some)
 
 mul-t18 : tie.Need-mul-t18
 mul-t18 c =
-    let f = c .before .before .before .before .before .before .before .before .before .before .args .self in
-    let q : c .before .before .before .before .fetch-answer .result ≡ answerOf (fetchRows f (c .before .before .before .before .before .before .before .before .before .before .args .room) (c .before .before .before .before .before .before .before .before .before .before .args .lens .now) (c .before .before .before .before .before .before .before .before .before .before .args .number)) = c .before .before .before .before .fetch-answer .ensures ∙ (λ i. answerOf (fetched (c .before .before .before .before .before .is-coherent-store .ensures i) (leb (c .before .before .before .before .before .before .rank3 .ensures .is i) (c .before .before .before .before .before .before .before .before .rank .ensures .is i) && leb (c .before .before .before .before .before .before .before .before .rank .ensures .is i) (c .before .before .before .before .before .before .before .rank2 .ensures .is i)))) in
-    let k = fetches-is f (c .before .before .before .before .before .before .before .before .before .before .args .room) (c .before .before .before .before .before .before .before .before .before .before .args .lens .now) (c .before .before .before .before .before .before .before .before .before .before .args .number) (clear (fetchRows f (c .before .before .before .before .before .before .before .before .before .before .args .room) (c .before .before .before .before .before .before .before .before .before .before .args .lens .now) (c .before .before .before .before .before .before .before .before .before .before .args .number)) (c .before .before .before .before .fetch-answer .result) q (c .before .before .if1 .left)) in
-    let i = slot-below f (c .before .before .before .before .before .before .before .before .rank .result - 1) (k .sound .flow .limits) in
+    let args = c .before .before .before .before .before .before .before .before .before .before .args in
+    let rank = c .before .before .before .before .before .before .before .before .rank in
+    let rank2 = c .before .before .before .before .before .before .before .rank2 in
+    let rank3 = c .before .before .before .before .before .before .rank3 in
+    let is-coherent-store = c .before .before .before .before .before .is-coherent-store in
+    let fetch-answer = c .before .before .before .before .fetch-answer in
+    let if1 = c .before .before .if1 in
+    let f = args .self in
+    let q : fetch-answer .result ≡ answerOf (fetchRows f (args .room) (args .lens .now) (args .number)) = fetch-answer .ensures
+    ∙ (λ i. answerOf (fetched (is-coherent-store .ensures i) (leb (rank3 .ensures .is i) (rank .ensures .is i) && leb (rank .ensures .is i) (rank2 .ensures .is i)))) in
+    let k = fetches-is f (args .room) (args .lens .now) (args .number) (clear (fetchRows f (args .room) (args .lens .now) (args .number)) (fetch-answer .result) q (if1 .left)) in
+    let i = slot-below f (rank .result - 1) (k .sound .flow .limits) in
     record { fits = omega (arith, slot-in (f .limits .«slot_bytes») i, area (k .sound .flow .limits .slots-few) (k .sound .flow .limits .bytes-few)) }
 
 mul-t19 : tie.Need-mul-t19
 mul-t19 c =
-    let f = c .before .before .before .before .before .before .before .before .before .before .args .self in
-    let q : c .before .before .before .before .fetch-answer .result ≡ answerOf (fetchRows f (c .before .before .before .before .before .before .before .before .before .before .args .room) (c .before .before .before .before .before .before .before .before .before .before .args .lens .now) (c .before .before .before .before .before .before .before .before .before .before .args .number)) = c .before .before .before .before .fetch-answer .ensures ∙ (λ i. answerOf (fetched (c .before .before .before .before .before .is-coherent-store .ensures i) (leb (c .before .before .before .before .before .before .rank3 .ensures .is i) (c .before .before .before .before .before .before .before .before .rank .ensures .is i) && leb (c .before .before .before .before .before .before .before .before .rank .ensures .is i) (c .before .before .before .before .before .before .before .rank2 .ensures .is i)))) in
-    let k = fetches-is f (c .before .before .before .before .before .before .before .before .before .before .args .room) (c .before .before .before .before .before .before .before .before .before .before .args .lens .now) (c .before .before .before .before .before .before .before .before .before .before .args .number) (clear (fetchRows f (c .before .before .before .before .before .before .before .before .before .before .args .room) (c .before .before .before .before .before .before .before .before .before .before .args .lens .now) (c .before .before .before .before .before .before .before .before .before .before .args .number)) (c .before .before .before .before .fetch-answer .result) q (c .before .before .if1 .left)) in
-    let i = slot-below f (c .before .before .before .before .before .before .before .before .rank .result - 1) (k .sound .flow .limits) in
+    let args = c .before .before .before .before .before .before .before .before .before .before .args in
+    let rank = c .before .before .before .before .before .before .before .before .rank in
+    let rank2 = c .before .before .before .before .before .before .before .rank2 in
+    let rank3 = c .before .before .before .before .before .before .rank3 in
+    let is-coherent-store = c .before .before .before .before .before .is-coherent-store in
+    let fetch-answer = c .before .before .before .before .fetch-answer in
+    let if1 = c .before .before .if1 in
+    let f = args .self in
+    let q : fetch-answer .result ≡ answerOf (fetchRows f (args .room) (args .lens .now) (args .number)) = fetch-answer .ensures
+    ∙ (λ i. answerOf (fetched (is-coherent-store .ensures i) (leb (rank3 .ensures .is i) (rank .ensures .is i) && leb (rank .ensures .is i) (rank2 .ensures .is i)))) in
+    let k = fetches-is f (args .room) (args .lens .now) (args .number) (clear (fetchRows f (args .room) (args .lens .now) (args .number)) (fetch-answer .result) q (if1 .left)) in
+    let i = slot-below f (rank .result - 1) (k .sound .flow .limits) in
     record { fits = omega (arith, i, k .sound .flow .limits .slots-few) }
 
 shared-slice-read-t16 : tie.Need-shared-slice-read-t16
 shared-slice-read-t16 c =
-    let f = c .before .before .before .before .before .before .before .before .before .before .before .args .self in
-    let q : c .before .before .before .before .before .fetch-answer .result ≡ answerOf (fetchRows f (c .before .before .before .before .before .before .before .before .before .before .before .args .room) (c .before .before .before .before .before .before .before .before .before .before .before .args .lens .now) (c .before .before .before .before .before .before .before .before .before .before .before .args .number)) = c .before .before .before .before .before .fetch-answer .ensures ∙ (λ i. answerOf (fetched (c .before .before .before .before .before .before .is-coherent-store .ensures i) (leb (c .before .before .before .before .before .before .before .rank3 .ensures .is i) (c .before .before .before .before .before .before .before .before .before .rank .ensures .is i) && leb (c .before .before .before .before .before .before .before .before .before .rank .ensures .is i) (c .before .before .before .before .before .before .before .before .rank2 .ensures .is i)))) in
-    let k = fetches-is f (c .before .before .before .before .before .before .before .before .before .before .before .args .room) (c .before .before .before .before .before .before .before .before .before .before .before .args .lens .now) (c .before .before .before .before .before .before .before .before .before .before .before .args .number) (clear (fetchRows f (c .before .before .before .before .before .before .before .before .before .before .before .args .room) (c .before .before .before .before .before .before .before .before .before .before .before .args .lens .now) (c .before .before .before .before .before .before .before .before .before .before .before .args .number)) (c .before .before .before .before .before .fetch-answer .result) q (c .before .before .before .if1 .left)) in
-    let i = slot-below f (c .before .before .before .before .before .before .before .before .before .rank .result - 1) (k .sound .flow .limits) in
+    let args = c .before .before .before .before .before .before .before .before .before .before .before .args in
+    let rank = c .before .before .before .before .before .before .before .before .before .rank in
+    let rank2 = c .before .before .before .before .before .before .before .before .rank2 in
+    let rank3 = c .before .before .before .before .before .before .before .rank3 in
+    let is-coherent-store = c .before .before .before .before .before .before .is-coherent-store in
+    let fetch-answer = c .before .before .before .before .before .fetch-answer in
+    let if1 = c .before .before .before .if1 in
+    let f = args .self in
+    let q : fetch-answer .result ≡ answerOf (fetchRows f (args .room) (args .lens .now) (args .number)) = fetch-answer .ensures
+    ∙ (λ i. answerOf (fetched (is-coherent-store .ensures i) (leb (rank3 .ensures .is i) (rank .ensures .is i) && leb (rank .ensures .is i) (rank2 .ensures .is i)))) in
+    let k = fetches-is f (args .room) (args .lens .now) (args .number) (clear (fetchRows f (args .room) (args .lens .now) (args .number)) (fetch-answer .result) q (if1 .left)) in
+    let i = slot-below f (rank .result - 1) (k .sound .flow .limits) in
     omega (arith, i, k .sound .lens-length)
 
 returns-2 : tie.Need-returns-2
 returns-2 c =
-    let f = c .before .before .before .before .before .before .before .before .before .before .before .args .self in
-    let q : c .before .before .before .before .before .fetch-answer .result ≡ answerOf (fetchRows f (c .before .before .before .before .before .before .before .before .before .before .before .args .room) (c .before .before .before .before .before .before .before .before .before .before .before .args .lens .now) (c .before .before .before .before .before .before .before .before .before .before .before .args .number)) = c .before .before .before .before .before .fetch-answer .ensures ∙ (λ i. answerOf (fetched (c .before .before .before .before .before .before .is-coherent-store .ensures i) (leb (c .before .before .before .before .before .before .before .rank3 .ensures .is i) (c .before .before .before .before .before .before .before .before .before .rank .ensures .is i) && leb (c .before .before .before .before .before .before .before .before .before .rank .ensures .is i) (c .before .before .before .before .before .before .before .before .rank2 .ensures .is i)))) in
-    rw (done-is (c .before .before .before .before .before .fetch-answer .result) (c .before .before .before .if1 .left), c .before .before .before .before .before .before .before .before .before .rank .ensures .is) (is-done {A = Located} (fetchRows f (c .before .before .before .before .before .before .before .before .before .before .before .args .room) (c .before .before .before .before .before .before .before .before .before .before .before .args .lens .now) (c .before .before .before .before .before .before .before .before .before .before .before .args .number)) (c .before .before .before .before .before .fetch-answer .result) q (λ no. record { answer = no; start = 0; length = 0 }) (record { answer = done; start = startOf (view f) (rankOf (c .before .before .before .before .before .before .before .before .before .before .before .args .number)); length = getD (c .before .before .before .before .before .before .before .before .before .before .before .args .lens .now) (slotOf (view f) (rankOf (c .before .before .before .before .before .before .before .before .before .before .before .args .number))) 0 }) (c .before .before .before .if1 .left))
+    let args = c .before .before .before .before .before .before .before .before .before .before .before .args in
+    let rank = c .before .before .before .before .before .before .before .before .before .rank in
+    let rank2 = c .before .before .before .before .before .before .before .before .rank2 in
+    let rank3 = c .before .before .before .before .before .before .before .rank3 in
+    let is-coherent-store = c .before .before .before .before .before .before .is-coherent-store in
+    let fetch-answer = c .before .before .before .before .before .fetch-answer in
+    let if1 = c .before .before .before .if1 in
+    let f = args .self in
+    let q : fetch-answer .result ≡ answerOf (fetchRows f (args .room) (args .lens .now) (args .number)) = fetch-answer .ensures
+    ∙ (λ i. answerOf (fetched (is-coherent-store .ensures i) (leb (rank3 .ensures .is i) (rank .ensures .is i) && leb (rank .ensures .is i) (rank2 .ensures .is i)))) in
+    rw (done-is (fetch-answer .result) (if1 .left), rank .ensures .is)
+    (is-done {A = Located} (fetchRows f (args .room) (args .lens .now) (args .number)) (fetch-answer .result) q (λ no. record { answer = no; start = 0; length = 0 })
+    (record { answer = done; start = startOf (view f) (rankOf (args .number)); length = getD (args .lens .now) (slotOf (view f) (rankOf (args .number))) 0 }) (if1 .left))
 
 pub locate-spec : {M : Type 1} → statement M
 locate-spec =

@@ -25,16 +25,29 @@ formed-requires c κs = search needs
 
 returns : tie.Need-returns
 returns c =
-    let q = c .before .before .before .limit-answer .ensures ∙ ap (λ (b : Bool). answerOf (limited (not b))) (c .before .before .before .before .are-allowed .ensures ∙ ap (λ (l : Limits). allowed l) (c .before .before .before .before .before .with-0-as-1 .ensures)) in
-    rw (c .formed .ensures) (is-refused {A = Moved} (limited (not (allowed (counted (c .before .before .before .before .before .before .args .limits))))) (c .before .before .before .limit-answer .result) q (λ no. record { answer = no; flow = zeroed }) (record { answer = done; flow = form (blank (c .before .before .before .before .before .before .args .kind) (counted (c .before .before .before .before .before .before .args .limits))) }) (c .before .if1 .taken))
+    let args = c .before .before .before .before .before .before .args in
+    let with-0-as-1 = c .before .before .before .before .before .with-0-as-1 in
+    let are-allowed = c .before .before .before .before .are-allowed in
+    let limit-answer = c .before .before .before .limit-answer in
+    let if1 = c .before .if1 in
+    let q = limit-answer .ensures ∙ ap (λ (b : Bool). answerOf (limited (not b))) (are-allowed .ensures ∙ ap (λ (l : Limits). allowed l) (with-0-as-1 .ensures)) in
+    rw (c .formed .ensures) (is-refused {A = Moved} (limited (not (allowed (counted (args .limits))))) (limit-answer .result) q (λ no. record { answer = no; flow = zeroed })
+    (record { answer = done; flow = form (blank (args .kind) (counted (args .limits))) }) (if1 .taken))
 
 formed-requires-2 : tie.Need-formed-requires-2
 formed-requires-2 c κs = search needs
 
 returns-2 : tie.Need-returns-2
 returns-2 c =
-    let q = c .before .before .before .limit-answer .ensures ∙ ap (λ (b : Bool). answerOf (limited (not b))) (c .before .before .before .before .are-allowed .ensures ∙ ap (λ (l : Limits). allowed l) (c .before .before .before .before .before .with-0-as-1 .ensures)) in
-    rw (done-is (c .before .before .before .limit-answer .result) (c .before .if1 .left), c .formed2 .ensures, c .before .before .before .before .before .with-0-as-1 .ensures) (is-done {A = Moved} (limited (not (allowed (counted (c .before .before .before .before .before .before .args .limits))))) (c .before .before .before .limit-answer .result) q (λ no. record { answer = no; flow = zeroed }) (record { answer = done; flow = form (blank (c .before .before .before .before .before .before .args .kind) (counted (c .before .before .before .before .before .before .args .limits))) }) (c .before .if1 .left))
+    let args = c .before .before .before .before .before .before .args in
+    let with-0-as-1 = c .before .before .before .before .before .with-0-as-1 in
+    let are-allowed = c .before .before .before .before .are-allowed in
+    let limit-answer = c .before .before .before .limit-answer in
+    let if1 = c .before .if1 in
+    let q = limit-answer .ensures ∙ ap (λ (b : Bool). answerOf (limited (not b))) (are-allowed .ensures ∙ ap (λ (l : Limits). allowed l) (with-0-as-1 .ensures)) in
+    rw (done-is (limit-answer .result) (if1 .left), c .formed2 .ensures, with-0-as-1 .ensures)
+    (is-done {A = Moved} (limited (not (allowed (counted (args .limits))))) (limit-answer .result) q (λ no. record { answer = no; flow = zeroed })
+    (record { answer = done; flow = form (blank (args .kind) (counted (args .limits))) }) (if1 .left))
 
 pub new-spec : {M : Type 1} → statement M
 new-spec =

@@ -22,7 +22,13 @@ above-requires-2 : tie.Need-above-requires-2
 above-requires-2 c κs = search needs
 
 returns : tie.Need-returns
-returns c = rw (c .before .before .before .before .before .before .above2 .ensures, c .before .before .before .before .before .before .before .above .ensures, ← c .before .before .before .before .before .before .before .before .rank3 .ensures .is, ← c .before .before .before .before .before .before .before .before .before .rank2 .ensures .is, ← c .before .before .before .before .before .before .before .before .before .before .rank .ensures .is)
+returns c =
+    let rank = c .before .before .before .before .before .before .before .before .before .before .rank in
+    let rank2 = c .before .before .before .before .before .before .before .before .before .rank2 in
+    let rank3 = c .before .before .before .before .before .before .before .before .rank3 in
+    let above = c .before .before .before .before .before .before .before .above in
+    let above2 = c .before .before .before .before .before .before .above2 in
+    rw (above2 .ensures, above .ensures, ← rank3 .ensures .is, ← rank2 .ensures .is, ← rank .ensures .is)
 
 pub room-for-spec : {M : Type 1} → statement M
 room-for-spec =

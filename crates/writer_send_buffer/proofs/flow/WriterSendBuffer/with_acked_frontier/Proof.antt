@@ -32,7 +32,15 @@ range-answer-requires : tie.Need-range-answer-requires
 range-answer-requires c κs = search needs
 
 returns : tie.Need-returns
-returns c = ap woken (refused (c .before .before .before .before .before .before .before .args .self) (c .before .before .before .is-coherent .result) (ltb (c .before .before .before .before .before .rank2 .result + 1) (c .before .before .before .before .before .before .rank .result)) (ahead (frontierOf (c .before .before .before .before .before .before .before .args .frontier)) (view (c .before .before .before .before .before .before .before .args .self))) (c .before .before .before .is-coherent .ensures) (λ i. ltb (c .before .before .before .before .before .rank2 .ensures .is i + 1) (c .before .before .before .before .before .before .rank .ensures i)) (c .before .before .range-answer .result) (c .before .before .range-answer .ensures) (λ no. record { result = toldNo no; first = c .before .before .before .before .before .before .before .args .self }) (storedIn (frontierOf (c .before .before .before .before .before .before .before .args .frontier)) (view (c .before .before .before .before .before .before .before .args .self))) (c .if1 .taken))
+returns c =
+    let args = c .before .before .before .before .before .before .before .args in
+    let rank = c .before .before .before .before .before .before .rank in
+    let rank2 = c .before .before .before .before .before .rank2 in
+    let is-coherent = c .before .before .before .is-coherent in
+    let range-answer = c .before .before .range-answer in
+    ap woken (refused (args .self) (is-coherent .result) (ltb (rank2 .result + 1) (rank .result)) (ahead (frontierOf (args .frontier)) (view (args .self))) (is-coherent .ensures)
+    (λ i. ltb (rank2 .ensures .is i + 1) (rank .ensures i)) (range-answer .result) (range-answer .ensures) (λ no. record { result = toldNo no; first = args .self })
+    (storedIn (frontierOf (args .frontier)) (view (args .self))) (c .if1 .taken))
 
 rank-requires-4 : tie.Need-rank-requires-4
 rank-requires-4 c κs = search needs
@@ -44,13 +52,41 @@ formed-requires : tie.Need-formed-requires
 formed-requires c κs = search needs
 
 returns-2 : tie.Need-returns-2
-returns-2 c = rw (done-is (c .before .before .before .before .before .before .before .before .range-answer .result) (c .before .before .before .before .before .before .if1 .left), c .formed .ensures, c .before .before .rank5 .ensures .is, c .before .before .before .rank4 .ensures .is, c .before .before .before .before .before .before .before .before .before .before .rank3 .ensures .is, c .before .before .before .before .before .before .before .before .before .before .before .rank2 .ensures .is) (ap woken (none-stored (frontierOf (c .before .before .before .before .before .before .before .before .before .before .before .before .before .args .frontier)) (view (c .before .before .before .before .before .before .before .before .before .before .before .before .before .args .self)) (sym (c .before .before .before .before .before .before .before .before .before .before .before .before .rank .ensures) ∙ c .before .if2 .taken) ∙ finished (c .before .before .before .before .before .before .before .before .before .before .before .before .before .args .self) (c .before .before .before .before .before .before .before .before .before .is-coherent .result) (ltb (c .before .before .before .before .before .before .before .before .before .before .before .rank2 .result + 1) (c .before .before .before .before .before .before .before .before .before .before .before .before .rank .result)) (ahead (frontierOf (c .before .before .before .before .before .before .before .before .before .before .before .before .before .args .frontier)) (view (c .before .before .before .before .before .before .before .before .before .before .before .before .before .args .self))) (c .before .before .before .before .before .before .before .before .before .is-coherent .ensures) (λ i. ltb (c .before .before .before .before .before .before .before .before .before .before .before .rank2 .ensures .is i + 1) (c .before .before .before .before .before .before .before .before .before .before .before .before .rank .ensures i)) (c .before .before .before .before .before .before .before .before .range-answer .result) (c .before .before .before .before .before .before .before .before .range-answer .ensures) (λ no. record { result = toldNo no; first = c .before .before .before .before .before .before .before .before .before .before .before .before .before .args .self }) (storedIn (frontierOf (c .before .before .before .before .before .before .before .before .before .before .before .before .before .args .frontier)) (view (c .before .before .before .before .before .before .before .before .before .before .before .before .before .args .self))) (c .before .before .before .before .before .before .if1 .left)))
+returns-2 c =
+    let args = c .before .before .before .before .before .before .before .before .before .before .before .before .before .args in
+    let rank = c .before .before .before .before .before .before .before .before .before .before .before .before .rank in
+    let rank2 = c .before .before .before .before .before .before .before .before .before .before .before .rank2 in
+    let rank3 = c .before .before .before .before .before .before .before .before .before .before .rank3 in
+    let is-coherent = c .before .before .before .before .before .before .before .before .before .is-coherent in
+    let range-answer = c .before .before .before .before .before .before .before .before .range-answer in
+    let if1 = c .before .before .before .before .before .before .if1 in
+    let rank4 = c .before .before .before .rank4 in
+    let rank5 = c .before .before .rank5 in
+    let if2 = c .before .if2 in
+    rw (done-is (range-answer .result) (if1 .left), c .formed .ensures, rank5 .ensures .is, rank4 .ensures .is, rank3 .ensures .is, rank2 .ensures .is)
+    (ap woken (none-stored (frontierOf (args .frontier)) (view (args .self)) (sym (rank .ensures) ∙ if2 .taken) ∙ finished (args .self) (is-coherent .result) (ltb (rank2 .result + 1) (rank .result))
+    (ahead (frontierOf (args .frontier)) (view (args .self))) (is-coherent .ensures) (λ i. ltb (rank2 .ensures .is i + 1) (rank .ensures i)) (range-answer .result) (range-answer .ensures)
+    (λ no. record { result = toldNo no; first = args .self }) (storedIn (frontierOf (args .frontier)) (view (args .self))) (if1 .left)))
 
 formed-requires-2 : tie.Need-formed-requires-2
 formed-requires-2 c κs = search needs
 
 returns-3 : tie.Need-returns-3
-returns-3 c = rw (done-is (c .before .before .before .before .before .before .before .before .range-answer .result) (c .before .before .before .before .before .before .if1 .left), c .formed2 .ensures, c .before .before .rank5 .ensures .is, c .before .before .before .rank4 .ensures .is, c .before .before .before .before .before .before .before .before .before .before .rank3 .ensures .is, c .before .before .before .before .before .before .before .before .before .before .before .rank2 .ensures .is, c .before .before .before .before .before .before .before .before .before .before .before .before .rank .ensures) (ap woken (one-stored (frontierOf (c .before .before .before .before .before .before .before .before .before .before .before .before .before .args .frontier)) (view (c .before .before .before .before .before .before .before .before .before .before .before .before .before .args .self)) (λ e. c .before .if2 .left (c .before .before .before .before .before .before .before .before .before .before .before .before .rank .ensures ∙ e)) ∙ finished (c .before .before .before .before .before .before .before .before .before .before .before .before .before .args .self) (c .before .before .before .before .before .before .before .before .before .is-coherent .result) (ltb (c .before .before .before .before .before .before .before .before .before .before .before .rank2 .result + 1) (c .before .before .before .before .before .before .before .before .before .before .before .before .rank .result)) (ahead (frontierOf (c .before .before .before .before .before .before .before .before .before .before .before .before .before .args .frontier)) (view (c .before .before .before .before .before .before .before .before .before .before .before .before .before .args .self))) (c .before .before .before .before .before .before .before .before .before .is-coherent .ensures) (λ i. ltb (c .before .before .before .before .before .before .before .before .before .before .before .rank2 .ensures .is i + 1) (c .before .before .before .before .before .before .before .before .before .before .before .before .rank .ensures i)) (c .before .before .before .before .before .before .before .before .range-answer .result) (c .before .before .before .before .before .before .before .before .range-answer .ensures) (λ no. record { result = toldNo no; first = c .before .before .before .before .before .before .before .before .before .before .before .before .before .args .self }) (storedIn (frontierOf (c .before .before .before .before .before .before .before .before .before .before .before .before .before .args .frontier)) (view (c .before .before .before .before .before .before .before .before .before .before .before .before .before .args .self))) (c .before .before .before .before .before .before .if1 .left)))
+returns-3 c =
+    let args = c .before .before .before .before .before .before .before .before .before .before .before .before .before .args in
+    let rank = c .before .before .before .before .before .before .before .before .before .before .before .before .rank in
+    let rank2 = c .before .before .before .before .before .before .before .before .before .before .before .rank2 in
+    let rank3 = c .before .before .before .before .before .before .before .before .before .before .rank3 in
+    let is-coherent = c .before .before .before .before .before .before .before .before .before .is-coherent in
+    let range-answer = c .before .before .before .before .before .before .before .before .range-answer in
+    let if1 = c .before .before .before .before .before .before .if1 in
+    let rank4 = c .before .before .before .rank4 in
+    let rank5 = c .before .before .rank5 in
+    let if2 = c .before .if2 in
+    rw (done-is (range-answer .result) (if1 .left), c .formed2 .ensures, rank5 .ensures .is, rank4 .ensures .is, rank3 .ensures .is, rank2 .ensures .is, rank .ensures)
+    (ap woken (one-stored (frontierOf (args .frontier)) (view (args .self)) (λ e. if2 .left (rank .ensures ∙ e)) ∙ finished (args .self) (is-coherent .result) (ltb (rank2 .result + 1) (rank .result))
+    (ahead (frontierOf (args .frontier)) (view (args .self))) (is-coherent .ensures) (λ i. ltb (rank2 .ensures .is i + 1) (rank .ensures i)) (range-answer .result) (range-answer .ensures)
+    (λ no. record { result = toldNo no; first = args .self }) (storedIn (frontierOf (args .frontier)) (view (args .self))) (if1 .left)))
 
 pub with-acked-frontier-spec : {M : Type 1} → statement M
 with-acked-frontier-spec =

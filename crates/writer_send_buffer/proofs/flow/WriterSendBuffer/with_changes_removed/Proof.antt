@@ -33,7 +33,15 @@ range-answer-requires : tie.Need-range-answer-requires
 range-answer-requires c κs = search needs
 
 returns : tie.Need-returns
-returns c = ap moved (refused (c .before .before .before .before .before .before .before .args .self) (c .before .before .before .is-coherent .result) (ltb (c .before .before .before .before .before .rank2 .result + 1) (c .before .before .before .before .before .before .rank .result)) (ahead (rankOf (c .before .before .before .before .before .before .before .args .before)) (view (c .before .before .before .before .before .before .before .args .self))) (c .before .before .before .is-coherent .ensures) (λ i. ltb (c .before .before .before .before .before .rank2 .ensures .is i + 1) (c .before .before .before .before .before .before .rank .ensures .is i)) (c .before .before .range-answer .result) (c .before .before .range-answer .ensures) (λ no. record { result = no; first = c .before .before .before .before .before .before .before .args .self }) (record { result = done; first = form (evicted (rankOf (c .before .before .before .before .before .before .before .args .before)) (view (c .before .before .before .before .before .before .before .args .self))) }) (c .if1 .taken))
+returns c =
+    let args = c .before .before .before .before .before .before .before .args in
+    let rank = c .before .before .before .before .before .before .rank in
+    let rank2 = c .before .before .before .before .before .rank2 in
+    let is-coherent = c .before .before .before .is-coherent in
+    let range-answer = c .before .before .range-answer in
+    ap moved (refused (args .self) (is-coherent .result) (ltb (rank2 .result + 1) (rank .result)) (ahead (rankOf (args .before)) (view (args .self))) (is-coherent .ensures)
+    (λ i. ltb (rank2 .ensures .is i + 1) (rank .ensures .is i)) (range-answer .result) (range-answer .ensures) (λ no. record { result = no; first = args .self })
+    (record { result = done; first = form (evicted (rankOf (args .before)) (view (args .self))) }) (c .if1 .taken))
 
 rank-requires-4 : tie.Need-rank-requires-4
 rank-requires-4 c κs = search needs
@@ -48,7 +56,21 @@ formed-requires : tie.Need-formed-requires
 formed-requires c κs = search needs
 
 returns-2 : tie.Need-returns-2
-returns-2 c = rw (done-is (c .before .before .before .before .before .before .before .before .range-answer .result) (c .before .before .before .before .before .before .if1 .left), c .formed .ensures, c .before .larger .ensures, c .before .before .before .before .rank5 .ensures .is, c .before .before .before .before .before .rank4 .ensures .is, c .before .before .before .before .before .before .before .before .before .before .rank3 .ensures .is, c .before .before .before .before .before .before .before .before .before .before .before .rank2 .ensures .is, c .before .before .before .before .before .before .before .before .before .before .before .before .rank .ensures .is) (ap moved (finished (c .before .before .before .before .before .before .before .before .before .before .before .before .before .args .self) (c .before .before .before .before .before .before .before .before .before .is-coherent .result) (ltb (c .before .before .before .before .before .before .before .before .before .before .before .rank2 .result + 1) (c .before .before .before .before .before .before .before .before .before .before .before .before .rank .result)) (ahead (rankOf (c .before .before .before .before .before .before .before .before .before .before .before .before .before .args .before)) (view (c .before .before .before .before .before .before .before .before .before .before .before .before .before .args .self))) (c .before .before .before .before .before .before .before .before .before .is-coherent .ensures) (λ i. ltb (c .before .before .before .before .before .before .before .before .before .before .before .rank2 .ensures .is i + 1) (c .before .before .before .before .before .before .before .before .before .before .before .before .rank .ensures .is i)) (c .before .before .before .before .before .before .before .before .range-answer .result) (c .before .before .before .before .before .before .before .before .range-answer .ensures) (λ no. record { result = no; first = c .before .before .before .before .before .before .before .before .before .before .before .before .before .args .self }) (record { result = done; first = form (evicted (rankOf (c .before .before .before .before .before .before .before .before .before .before .before .before .before .args .before)) (view (c .before .before .before .before .before .before .before .before .before .before .before .before .before .args .self))) }) (c .before .before .before .before .before .before .if1 .left)))
+returns-2 c =
+    let args = c .before .before .before .before .before .before .before .before .before .before .before .before .before .args in
+    let rank = c .before .before .before .before .before .before .before .before .before .before .before .before .rank in
+    let rank2 = c .before .before .before .before .before .before .before .before .before .before .before .rank2 in
+    let rank3 = c .before .before .before .before .before .before .before .before .before .before .rank3 in
+    let is-coherent = c .before .before .before .before .before .before .before .before .before .is-coherent in
+    let range-answer = c .before .before .before .before .before .before .before .before .range-answer in
+    let if1 = c .before .before .before .before .before .before .if1 in
+    let rank4 = c .before .before .before .before .before .rank4 in
+    let rank5 = c .before .before .before .before .rank5 in
+    let larger = c .before .larger in
+    rw (done-is (range-answer .result) (if1 .left), c .formed .ensures, larger .ensures, rank5 .ensures .is, rank4 .ensures .is, rank3 .ensures .is, rank2 .ensures .is, rank .ensures .is)
+    (ap moved (finished (args .self) (is-coherent .result) (ltb (rank2 .result + 1) (rank .result)) (ahead (rankOf (args .before)) (view (args .self))) (is-coherent .ensures)
+    (λ i. ltb (rank2 .ensures .is i + 1) (rank .ensures .is i)) (range-answer .result) (range-answer .ensures) (λ no. record { result = no; first = args .self })
+    (record { result = done; first = form (evicted (rankOf (args .before)) (view (args .self))) }) (if1 .left)))
 
 pub with-changes-removed-spec : {M : Type 1} → statement M
 with-changes-removed-spec =
