@@ -7,8 +7,8 @@ use native.Mathlib.Omega.{arith}
 use lib.Dec.{leb, ltb, eqb}
 use lib.ListN.{length, take, drop, replicate, length-take, length-drop, length-append, length-replicate}
 use lib.Seq.{take-all, length-take-le, take-take, drop-drop, drop-at, take-append-le, take-append-add, drop-append-le}
-use borrow.Author.Tests.{leb-true, leb-false, le-leb, le-ltb, ltb-false, ne-eqb}
-use Rattle.sets.specs.Sets.{smallest, empty}
+use borrow.Author.Tests.{leb-true, leb-false, le-leb, le-ltb, ltb-false}
+use Rattle.sets.specs.Sets.{between, smallest, empty}
 use Rattle.sets.proofs.Bools.{neither}
 use Rattle.sets.proofs.Loops.{done}
 use Rattle.numbers.specs.Number.{rankOf, negative}
@@ -16,7 +16,7 @@ use Rattle.numbers.specs.Promise.{Left1, Gives1}
 use Rattle.number_sets.specs.declared.sequence_number_set.SequenceNumberSet.{SequenceNumberSet}
 use Rattle.number_sets.specs.declared.sequence_number_set.Listed.{Listed}
 use Rattle.number_sets.specs.Bits.{members}
-use Rattle.number_sets.specs.Calls.{sequenceSet, joinedSet, sequenceRows, setRows, listed, allListed}
+use Rattle.number_sets.specs.Calls.{sequenceSet, cutSet, joinedSet, sequenceRows, setRows, listed, allListed}
 use Rattle.number_sets.proofs.Meaning.{span-window}
 use Rattle.rising.specs.Runs.{over, inRoom, placeOf, cutOut, openedWithin, filled}
 use Rattle.rising.proofs.Rooms.{drop-take, as-well}
@@ -216,37 +216,30 @@ module _ (count : ℕ) (a : List ℕ) (set : SequenceNumberSet) (first p k q : �
         record { result = g .result ∙ ap length x; first = g .first ∙ ap (λ (i : List ℕ). over a count (smallest (length a) i)) x }
 
 -- WHETHER ANYTHING JOINS
-pub none-joins : (set : SequenceNumberSet) (b : Bool) (n : ℕ) → b ≡ negative (set .base) → n ≡ length (members (sequenceSet set)) → (ltb 256 (set .count) || (b || eqb n 0)) ≡ joinsNone set
-none-joins set b n eb en = rw (eb, en) (ap (λ (t : Bool). ltb 256 (set .count) || (negative (set .base) || t)) (go (members (sequenceSet set))))
-  where
-    go : (l : List ℕ) → eqb (length l) 0 ≡ empty l
-    go [] = refl
-    go (x ∷ xs) = ne-eqb (suc (length xs)) 0 (λ z. omega arith)
-
-module _ (set asked : SequenceNumberSet) (ea : asked ≡ set) (count : ℕ) (a : List ℕ) (none : Bool) (e : none ≡ joinsNone asked) where
-  is-none : none ≡ joinsNone set
-  is-none = e ∙ ap joinsNone ea
-
-  pub joined-none : (ltb (length a) count || none) ≡ true → Gives1 count a (joinedIn set count a)
+module _ (set : SequenceNumberSet) (lo hi count : ℕ) (a : List ℕ) (none : Bool) (e : none ≡ joinsNone set lo hi) where
+  pub joined-none : (ltb (length a) count || none) ≡ true → Gives1 count a (joinedIn set lo hi count a)
   joined-none h = go (leb count (length a)) refl
     where
-      go : (t : Bool) → leb count (length a) ≡ t → Gives1 count a (cond (t && not (joinsNone set)) (laidIn count a (withMembers set (take count a))) (record { result = count; first = a }))
+      go : (t : Bool) → leb count (length a) ≡ t
+          → Gives1 count a (cond (t && not (joinsNone set lo hi)) (laidIn count a (withMembers (cutSet set lo hi) (take count a))) (record { result = count; first = a }))
       go false f = record { result = refl; first = refl }
       go true f =
-          let j : joinsNone set ≡ true = sym is-none ∙ (rw (le-ltb (length a) count (leb-true count (length a) f)) at h) in
+          let j : joinsNone set lo hi ≡ true = sym e ∙ (rw (le-ltb (length a) count (leb-true count (length a) f)) at h) in
           rw j (record { result = refl; first = refl })
 
   module _ (h : (ltb (length a) count || none) ≡ false) where
     pub some-fits : count ≤ length a
     some-fits = ltb-false (length a) count (neither (ltb (length a) count) none h .0)
 
-    some-joins : joinsNone asked ≡ false
+    some-joins : joinsNone set lo hi ≡ false
     some-joins = sym e ∙ neither (ltb (length a) count) none h .1
 
-    pub some-listable : Listable asked
-    some-listable =
-        let x = neither (ltb 256 (asked .count)) (negative (asked .base) || empty (members (sequenceSet asked))) some-joins in
-        record { bits = ltb-false 256 (asked .count) (x .0); base = neither (negative (asked .base)) (empty (members (sequenceSet asked))) (x .1) .0 }
+    module _ (asked : SequenceNumberSet) (ea : asked ≡ cutSet set lo hi) where
+      pub some-listable : Listable asked
+      some-listable =
+          let x = neither (ltb 256 (set .count)) (negative (set .base) || empty (between lo hi (members (sequenceSet set)))) some-joins in
+          subst Listable (sym ea)
+          (record { bits = ltb-false 256 (set .count) (x .0); base = neither (negative (set .base)) (empty (between lo hi (members (sequenceSet set)))) (x .1) .0 })
 
-    pub joined-done : (r : ℕ) (u : List ℕ) → Gives1 r u (laidIn count a (withMembers asked (take count a))) → Gives1 r u (joinedIn set count a)
-    joined-done r u g = subst (λ (x : SequenceNumberSet). Gives1 r u (joinedIn x count a)) ea (rw (le-leb count (length a) some-fits, some-joins) g)
+      pub joined-done : (r : ℕ) (u : List ℕ) → Gives1 r u (laidIn count a (withMembers asked (take count a))) → Gives1 r u (joinedIn set lo hi count a)
+      joined-done r u g = rw (le-leb count (length a) some-fits, some-joins) (subst (λ (x : SequenceNumberSet). Gives1 r u (laidIn count a (withMembers x (take count a)))) ea g)

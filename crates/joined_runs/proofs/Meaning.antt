@@ -183,17 +183,17 @@ module _ (count : ℕ) (room : List ℕ) (run : RunIs 0 count room) (set : Seque
   long = length-take-le count room (run .fits)
 
   -- nothing is asked for
-  none : joinsNone (cutSet set lo hi) ≡ true → all ≡ take count room
-  none e = ap (λ (x : List ℕ). union x (take count room)) (nil (between lo hi (members (sequenceSet set))) (ap empty (sym (members-cut set lo hi bits)) ∙ (rw (le-ltb 256 (set .count) bits, base) at e)))
+  none : joinsNone set lo hi ≡ true → all ≡ take count room
+  none e = ap (λ (x : List ℕ). union x (take count room)) (nil (between lo hi (members (sequenceSet set))) (rw (le-ltb 256 (set .count) bits, base) at e))
     where
       nil : (x : List ℕ) → empty x ≡ true → x ≡ []
       nil [] f = refl
       nil (y ∷ ys) f = absurd (true≢false (sym f))
 
-  pub join-is : (r : ℕ) (u : List ℕ) → Gives1 r u (joinedIn (cutSet set lo hi) count room) → (r ≡ length all) × (u ≡ roomOf (length room) (smallest (length room) all))
-  join-is r u g = go (joinsNone (cutSet set lo hi)) refl (rw (le-leb count (length room) (run .fits)) at g)
+  pub join-is : (r : ℕ) (u : List ℕ) → Gives1 r u (joinedIn set lo hi count room) → (r ≡ length all) × (u ≡ roomOf (length room) (smallest (length room) all))
+  join-is r u g = go (joinsNone set lo hi) refl (rw (le-leb count (length room) (run .fits)) at g)
     where
-      go : (t : Bool) → joinsNone (cutSet set lo hi) ≡ t → Gives1 r u (cond (not t) (laidIn count room (withMembers (cutSet set lo hi) (take count room))) (record { result = count; first = room }))
+      go : (t : Bool) → joinsNone set lo hi ≡ t → Gives1 r u (cond (not t) (laidIn count room (withMembers (cutSet set lo hi) (take count room))) (record { result = count; first = room }))
           → (r ≡ length all) × (u ≡ roomOf (length room) (smallest (length room) all))
       go true e k =
           let n = none e in

@@ -5,19 +5,19 @@ ghost use lib.ListN.{length, take};
 ghost use Rattle.numbers.specs.Promise.{Gives1};
 ghost use Rattle.rising.specs.Runs.{inRoom};
 ghost use Rattle.number_sets.specs.Bits.{members};
-ghost use Rattle.number_sets.specs.Calls.{sequenceSet, cutSet};
+ghost use Rattle.number_sets.specs.Calls.{sequenceSet};
 ghost use Rattle.joined_runs.specs.Joined.{joinsNone, joinedIn, withMembers, laidIn, replaced, resized, Within, Listable};
 use number_sets::SequenceNumberSet;
 use rising::room;
 use rising::run;
 
-// Whether nothing joins from a set.
-fn joins_none(set: SequenceNumberSet) -> bool
-    ensures { λ r. ⌜ r ≡ joinsNone set ⌝ }
+// Whether no member of a set from lo through hi joins.
+fn joins_none(set: SequenceNumberSet, lo: u64, hi: u64) -> bool
+    ensures { λ r. ⌜ r ≡ joinsNone set lo hi ⌝ }
 {
     let negative = set.base.is_negative();
-    let size = set.size();
-    (256 < set.count) | (negative | (size == 0))
+    let next = set.next_rank(lo, hi);
+    (256 < set.count) | (negative | next.none)
 }
 
 // The numbers from place p up to place q get room for n: the last of them go, or zeros come after them.
@@ -57,12 +57,12 @@ fn join_some(s: &mut [u64], count: usize, set: SequenceNumberSet) -> usize
 
 // The members of a set from lo through hi join the run. The smallest stay, as many as the room holds; how many there were is returned.
 pub fn join(s: &mut [u64], count: usize, set: SequenceNumberSet, lo: u64, hi: u64) -> usize
-    ensures { λ r. ⌜ Gives1 r (now (s .exit)) (joinedIn (cutSet set lo hi) count (now (s .entry))) ⌝ }
+    ensures { λ r. ⌜ Gives1 r (now (s .exit)) (joinedIn set lo hi count (now (s .entry))) ⌝ }
 {
-    let asked = set.cut(lo, hi);
-    let none = joins_none(asked);
+    let none = joins_none(set, lo, hi);
     if (s.len() < count) | none {
         return count;
     }
+    let asked = set.cut(lo, hi);
     join_some(s, count, asked)
 }

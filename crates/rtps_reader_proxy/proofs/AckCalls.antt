@@ -22,7 +22,7 @@ use Rattle.numbers.proofs.Refused.{clear, is-refused, is-done, gives2}
 use Rattle.numbers.proofs.Ranks.{in-range}
 use Rattle.number_sets.specs.declared.sequence_number_set.SequenceNumberSet.{SequenceNumberSet}
 use Rattle.number_sets.specs.Bits.{members}
-use Rattle.number_sets.specs.Calls.{sequenceSet, cutSet}
+use Rattle.number_sets.specs.Calls.{sequenceSet}
 use Rattle.rising.specs.Runs.{runOk, roomOf, inRoom, fromOn, before}
 use Rattle.rising.proofs.Meaning.{RunIs, run-is, in-room, room-is, room-ok, room-take, room-length, from-only, rising-only}
 use Rattle.rising.proofs.Changes.{between-room, only-le}
@@ -111,7 +111,7 @@ module _ (h : ReaderProxy) (unsent gaps : List ℕ) (set : SequenceNumberSet) (l
         few false = omega (arith, only-le (λ n. leb (baseOf base) n && leb n last) old, length-take (h .«unsent_count») unsent)
 
     module _ (total kept : ℕ) (u g : List ℕ) (r : AckNacked)
-        (j : Gives1 total u (joinedIn (cutSet set low last) c v))
+        (j : Gives1 total u (joinedIn set low last c v))
         (w : Gives1 kept g (inRoom (fromOn low) (h .«gap_count») gaps)) (er : r ≡ ackedWith low total kept h) where
       t : (total ≡ length (union (between low last (members (sequenceSet set))) (take c v))) × (u ≡ roomOf (length v) (smallest (length v) (union (between low last (members (sequenceSet set))) (take c v))))
       t = join-is c v kept-run set low last (k .bits) (k .base) (omega arith) total u j
