@@ -1,5 +1,5 @@
 // An answer in words, for people.
-use trace_run::Followed;
+use trace_readers::Followed;
 use trace_text::answer::put_byte;
 use trace_text::answer::put_number;
 use trace_text::answer::put_text;

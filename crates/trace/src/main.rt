@@ -12,8 +12,8 @@ use libc::STDOUT_FILENO;
 use numbers::arith::smaller;
 use trace_answers::follow_held;
 use trace_answers::put_followed;
-use trace_run::Followed;
-use trace_run::Trace;
+use trace_readers::Followed;
+use trace_readers::Trace;
 use trace_text::take_line;
 
 // What goes on from line to line: the trace, how many bytes of the line have come, the lines answered, and how much output waits.

@@ -5,8 +5,8 @@ use mathlib.Core.List.{List}
 use Rattle.numbers.specs.Promise.{Gives1, Gives3}
 use Rattle.numbers.proofs.One.{one1, one3}
 use Rattle.trace_text.specs.Answers.{putOf}
-use Rattle.trace_run.specs.declared.state.Trace.{Trace}
-use Rattle.trace_run.specs.declared.state.Followed.{Followed}
+use Rattle.trace_readers.specs.declared.state.Trace.{Trace}
+use Rattle.trace_readers.specs.declared.state.Followed.{Followed}
 use Rattle.trace_answers.specs.Shown.{followHeld, shownText}
 
 pub one-followed : (held : ℕ) (line : List ℕ) (t : Trace) (store large small : List ℕ) (f g : Followed) (u v w x y z : List ℕ) → Gives3 f u v w (followHeld held line t store large small)

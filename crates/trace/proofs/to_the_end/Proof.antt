@@ -15,7 +15,7 @@ use Rattle.io.proofs.write_all.Reads as write-all-reads
 use Rattle.trace.proofs.Run.ended.Reads as ended-reads
 use Rattle.trace.proofs.Run.flushed.Reads as flushed-reads
 use Rattle.trace.proofs.Run.read_some.Reads as read-some-reads
-use Rattle.trace_run.proofs.state.Trace.start.Reads as start-reads
+use Rattle.trace_readers.proofs.state.Trace.start.Reads as start-reads
 
 abbrev Inv-loop : tie.InvT-loop
 Inv-loop explain line₀ out₀ store₀ large₀ small₀ r₀ turns₀ t11 line out store large small r turns = (length line ≡ length line₀) × ((length out ≡ length out₀) × ((length store ≡ length store₀) × ((length large ≡ length large₀) × (length small ≡ length small₀))))

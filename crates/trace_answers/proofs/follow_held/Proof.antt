@@ -10,8 +10,8 @@ use Rattle.trace_answers.proofs.follow_held.Statement.{statement}
 use Rattle.trace_answers.proofs.follow_held.Tie as tie
 use Rattle.trace_answers.proofs.follow_held.Reads as reads
 use Rattle.trace_answers.proofs.follow_held.Lts as lts
-use Rattle.trace_run.proofs.state.Trace.follow.Reads as follow-reads
-use Rattle.trace_run.proofs.state.Trace.not_understood.Reads as not-understood-reads
+use Rattle.trace_run.proofs.follow.follow.Reads as follow-reads
+use Rattle.trace_readers.proofs.state.Trace.not_understood.Reads as not-understood-reads
 
 not-understood-requires : tie.Need-not-understood-requires
 not-understood-requires c κs = search needs
