@@ -1,4 +1,5 @@
 -- The laws of `trace_answers`.
 pub mod Laws
+pub mod InputLaws
 pub mod Before
 pub mod Unique

@@ -1,2 +1,3 @@
 -- The definitions of `trace_answers`.
 pub mod Shown
+pub mod Input

@@ -3,6 +3,10 @@ ghost use mathlib.Core.Path.{_≡_};
 ghost use Rattle.numbers.specs.Promise.{Gives1, Gives3};
 ghost use Rattle.trace_text.specs.Answers.{putOf};
 ghost use Rattle.trace_answers.specs.Shown.{followHeld, shownText};
+
+pub mod input;
+
+pub use input::Answering;
 use trace_readers::Followed;
 use trace_readers::Trace;
 use trace_run::follow::follow;
