@@ -22,7 +22,7 @@ pub shown-as : (c : Cut) (f : Followed) (r : Answering) (out : List ℕ) (n k : 
 shown-as c f r out n k u e g =
     record {
       result = ap (λ (m : ℕ). record { followed = f; cut = c; lines = n; filled = m }) (g .result)
-      ∙ ap (λ (m : ℕ). record { followed = f; cut = c; lines = m; filled = putOf (r .filled) (shownText m f) out .result }) e;
+          ∙ ap (λ (m : ℕ). record { followed = f; cut = c; lines = m; filled = putOf (r .filled) (shownText m f) out .result }) e;
       first = g .first ∙ ap (λ (m : ℕ). putOf (r .filled) (shownText m f) out .first) e;
     }
 

@@ -1,5 +1,6 @@
 -- The laws of `trace_answers`.
 pub mod Laws
 pub mod InputLaws
+pub mod PieceLaws
 pub mod Before
 pub mod Unique

@@ -1,9 +1,9 @@
 -- An input answered line by line, in whatever pieces it comes. Assumes nothing.
-use Prim.Native.Nat.{ℕ, zero, suc, _+_, min}
+use Prim.Native.Nat.{ℕ, zero, suc, _+_, _-_, min}
 use mathlib.Core.Path.{_≡_}
 use mathlib.Core.Bool.{Bool, true, false, not, cond, _&&_}
 use mathlib.Core.List.{List, [], _∷_, _++_}
-use lib.Dec.{ltb, leb, eqb}
+use lib.Dec.{ltb, eqb}
 use lib.ListN.{length, drop}
 use Rattle.numbers.specs.Refusals.{done}
 use Rattle.numbers.specs.Promise.{Left1, Left3}
@@ -92,9 +92,9 @@ cutBy c r out store large small =
 abbrev pub answerLine : Answering → List ℕ → List ℕ → List ℕ → List ℕ → List ℕ → List ℕ → Standing
 answerLine r piece line out store large small = cutBy (cutOf (r .cut .at) (drop (r .cut .at) piece) (heldNow r) line) r out store large small
 
--- THE LINES OF A PIECE, one after the other, as long as there is room for an answer; at most k
+-- THE LINES OF A PIECE, one after the other, as long as there is room for an answer: 256 bytes, which is more than any has; at most k lines
 abbrev pub goesOn : Answering → List ℕ → List ℕ → Bool
-goesOn r piece out = ltb (r .cut .at) (length piece) && leb (r .filled + 256) (length out)
+goesOn r piece out = ltb (r .cut .at) (length piece) && ltb 255 (length out - r .filled)
 
 abbrev pub answerLines : ℕ → List ℕ → Standing → Standing
 answerLines zero piece o = o

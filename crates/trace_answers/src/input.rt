@@ -3,10 +3,11 @@ ghost use mathlib.Core.Path.{_≡_};
 ghost use Prim.Native.Nat.{_+_, _≤_};
 ghost use lib.ListN.{length};
 ghost use Rattle.numbers.specs.Promise.{Gives1};
-ghost use Rattle.trace_answers.specs.Input.{Gives5, answeringNone, nextLine, heldNow, isOpen, nextPiece, nothingWaits, withCut, shownBy, answerLine, answerPiece};
+ghost use Rattle.trace_answers.specs.Input.{Gives5, answeringNone, nextLine, heldNow, isOpen, nextPiece, nothingWaits, goesOn, withCut, shownBy, answerLine, answerPiece};
 use crate::follow_held;
 use crate::put_followed;
 use numbers::Answer;
+use numbers::arith::excess;
 use trace_readers::Followed;
 use trace_readers::Trace;
 use trace_text::Cut;
@@ -142,5 +143,33 @@ impl Answering {
         let last = self.followed;
         let followed = follow_held(last.trace, line, cut.held, store, large, small);
         self.shown(cut, followed, out)
+    }
+
+    // Whether the piece has more, and the room for answers enough for one: 256 bytes, which is more than any has.
+    fn goes_on(self, piece: &[u8], out: &[u8]) -> bool
+        ensures { λ r. ⌜ r ≡ goesOn self (now (piece .entry)) (now (out .entry)) ⌝ }
+    {
+        let cut = self.cut;
+        let room = excess(out.len(), self.filled);
+        (cut.at < piece.len()) & (255 < room)
+    }
+
+    // The lines of the piece, one after the other, as long as there is room for an answer.
+    pub fn answer_piece(
+        self,
+        piece: &[u8],
+        line: &mut [u8],
+        out: &mut [u8],
+        store: &mut [u8],
+        large: &mut [u64],
+        small: &mut [u64],
+    ) -> Answering
+        ensures { λ r. ⌜ Gives5 r (now (line .exit)) (now (out .exit)) (now (store .exit)) (now (large .exit)) (now (small .exit)) (answerPiece self (now (piece .entry)) (now (line .entry)) (now (out .entry)) (now (store .entry)) (now (large .entry)) (now (small .entry))) ⌝ }
+    {
+        let mut r = self;
+        while r.goes_on(piece, out) {
+            r = r.answer_line(piece, line, out, store, large, small);
+        }
+        r
     }
 }
