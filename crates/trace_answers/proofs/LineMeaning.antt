@@ -152,9 +152,9 @@ module _ (o : Standing) (s l u : List ℕ) (h : Holds (o .first) (heldNow (o .re
       record {
         holds = subst (λ (x : Bool). Holds (c .first) (cond x 0 (c .result .held)) []) (sym b) (holds-none (c .first));
         all = ap (λ (x : List (List ℕ)). hasPut o ++ answersTo (length (o .first)) (keptIn o) x)
-        (lines-cut s l u ∙ ap (λ (x : Bool). cond x ((l ++ lineIn s) ∷ linesFrom [] (pastIn s ++ u)) (linesFrom (l ++ lineIn s) (pastIn s ++ u))) t)
-        ∙ moved (length (o .first)) (length (c .first)) (keptIn o) (l ++ lineIn s) (linesFrom [] (pastIn s ++ u)) (hasPut o) _ f
-        (follow-holds (c .first) (l ++ lineIn s) (c .result .held) (keptIn o) cut-is-held ∙ ap (λ (x : ℕ). followLine x (l ++ lineIn s) (keptIn o)) cut-keeps) cut-keeps (p .bytes-are);
+            (lines-cut s l u ∙ ap (λ (x : Bool). cond x ((l ++ lineIn s) ∷ linesFrom [] (pastIn s ++ u)) (linesFrom (l ++ lineIn s) (pastIn s ++ u))) t)
+            ∙ moved (length (o .first)) (length (c .first)) (keptIn o) (l ++ lineIn s) (linesFrom [] (pastIn s ++ u)) (hasPut o) _ f
+            (follow-holds (c .first) (l ++ lineIn s) (c .result .held) (keptIn o) cut-is-held ∙ ap (λ (x : ℕ). followLine x (l ++ lineIn s) (keptIn o)) cut-keeps) cut-keeps (p .bytes-are);
         line = cut-keeps;
         out = p .kept;
       }
@@ -165,8 +165,8 @@ module _ (o : Standing) (s l u : List ℕ) (h : Holds (o .first) (heldNow (o .re
       record {
         holds = subst (λ (x : Bool). Holds (c .first) (cond x 0 (c .result .held)) (l ++ lineIn s)) (sym b) cut-is-held;
         all = ap (λ (x : List (List ℕ)). hasPut o ++ answersTo (length (o .first)) (keptIn o) x)
-        (lines-cut s l u ∙ ap (λ (x : Bool). cond x ((l ++ lineIn s) ∷ linesFrom [] (pastIn s ++ u)) (linesFrom (l ++ lineIn s) (pastIn s ++ u))) t)
-        ∙ ap (λ (x : ℕ). hasPut o ++ answersTo x (keptIn o) (linesFrom (l ++ lineIn s) (pastIn s ++ u))) (sym cut-keeps);
+            (lines-cut s l u ∙ ap (λ (x : Bool). cond x ((l ++ lineIn s) ∷ linesFrom [] (pastIn s ++ u)) (linesFrom (l ++ lineIn s) (pastIn s ++ u))) t)
+            ∙ ap (λ (x : ℕ). hasPut o ++ answersTo x (keptIn o) (linesFrom (l ++ lineIn s) (pastIn s ++ u))) (sym cut-keeps);
         line = cut-keeps;
         out = refl;
       }

@@ -1,12 +1,13 @@
 -- THE ANSWERS TO AN INPUT ARE A FUNCTION OF ITS LINES ALONE, however it comes in pieces. Assumes nothing.
 use Prim.Native.Nat.{ℕ, zero, suc, _+_, _-_, _<_, _≤_}
 use mathlib.Core.Path.{_≡_, refl, sym, ap, subst, _∙_}
-use mathlib.Core.Bool.{Bool, true, false, cond, _&&_}
-use mathlib.Core.List.{List, [], _∷_, _++_}
+use mathlib.Core.Bool.{Bool, true, false, not, cond, _&&_}
+use mathlib.Core.List.{List, [], _∷_, _++_, append-nil}
+use native.Mathlib.Nat.{lt-irrefl}
 use native.Mathlib.Omega.{arith}
-use lib.Dec.{ltb}
+use lib.Dec.{ltb, eqb}
 use lib.ListN.{length, drop}
-use borrow.Author.Tests.{ltb-true, ne-eqb}
+use borrow.Author.Tests.{ltb-true, eq-eqb, ne-eqb, eqb-true, eqb-false}
 use Rattle.sets.proofs.Loops.{done}
 use Rattle.numbers.specs.Promise.{Left1}
 use Rattle.trace_text.specs.declared.lines.Cut.{Cut}
@@ -15,7 +16,7 @@ use Rattle.trace_text.proofs.LineLaws.{cut-ended, holds-none}
 use Rattle.trace_answers.specs.declared.input.Answering.{Answering}
 use Rattle.trace_answers.specs.Shown.{followHeld}
 use Rattle.trace_answers.specs.Input.{Left5, Standing, nextPiece, heldNow, withCut, answeredBy, goesOn, answerLines}
-use Rattle.trace_answers.specs.Text.{linesFrom, answersTo, keptIn, hasPut, toCome, answerNext, answerPieces, textOf, AllTaken, standingNone}
+use Rattle.trace_answers.specs.Text.{linesFrom, answersTo, keptIn, hasPut, toCome, answerNext, answerPieces, textOf, AllTaken, answerLast, LastTaken, standingNone}
 use Rattle.trace_answers.proofs.PieceLaws.{oneMore}
 use Rattle.trace_answers.proofs.LineMeaning.{Same, pastIn, cut-past, ended-same, open-same}
 
@@ -90,15 +91,43 @@ pieces-same (p ∷ ps) l o h t =
     let d : Goes o (answerNext p o) l (p ++ textOf ps) (textOf ps) = record { held = b .held; same = record { holds = b .same .holds; all = b .same .all; line = b .same .line; out = b .same .out } } in
     then o (answerNext p o) (answerPieces ps (answerNext p o)) l (p ++ textOf ps) (textOf ps) [] d (pieces-same ps (d .held) (answerNext p o) (d .same .holds) (t .1))
 
--- THE THEOREM: from the start, what has been put, and for a line that has begun what is to come, are the answers to the lines of the text
-pub answers-are : (ps : List (List ℕ)) (line out store large small : List ℕ) → AllTaken ps (standingNone line out store large small)
-    → (m : List ℕ)
-    × (answersTo (length line) (keptIn (standingNone line out store large small)) (linesFrom [] (textOf ps))
-    ≡ hasPut (answerPieces ps (standingNone line out store large small)) ++ toCome (answerPieces ps (standingNone line out store large small)) m [])
-answers-are ps line out store large small t =
-    let g = pieces-same ps [] (standingNone line out store large small) (holds-none line) t in
-    (g .held, g .same .all)
+-- a newline ends a line that has begun
+last-line : (l : List ℕ) → (length l ≡ 0 → ⊥) → linesFrom l [] ≡ linesFrom l (10 ∷ [])
+last-line l h = ap (λ (b : Bool). cond b [] (l ∷ [])) (ne-eqb (length l) 0 h)
 
--- and a newline at the input's end ends a line that has begun, as the program puts it there
-pub last-line : (l : List ℕ) → (length l ≡ 0 → ⊥) → linesFrom l (10 ∷ []) ≡ linesFrom l []
-last-line l h = sym (ap (λ (b : Bool). cond b [] (l ∷ [])) (ne-eqb (length l) 0 h))
+newline-ends : (o : Standing) → 1 ≤ answerNext (10 ∷ []) o .result .cut .at → heldNow (answerNext (10 ∷ []) o .result) ≡ 0
+newline-ends o = go (goesOn (nextPiece (o .result)) (10 ∷ []) (o .second))
+  where
+    first : Standing
+    first = record { result = nextPiece (o .result); first = o .first; second = o .second; third = o .third; fourth = o .fourth; fifth = o .fifth }
+
+    go : (b : Bool) → 1 ≤ cond b (oneMore (10 ∷ []) first) first .result .cut .at → heldNow (cond b (oneMore (10 ∷ []) first) first .result) ≡ 0
+    go true h = refl
+    go false h = absurd (lt-irrefl 0 h)
+
+-- where no byte of a line is held, nothing is to come
+none-to-come : (o : Standing) (m : List ℕ) → Holds (o .first) (heldNow (o .result)) m → heldNow (o .result) ≡ 0 → hasPut o ++ toCome o m [] ≡ hasPut o
+none-to-come o m h e =
+    let z : length m ≡ 0 = omega (arith, h .count, e) in
+    ap (λ (b : Bool). hasPut o ++ answersTo (length (o .first)) (keptIn o) (cond b [] (m ∷ []))) (eq-eqb (length m) 0 z) ∙ append-nil (hasPut o)
+
+-- the end of the input
+pub last-same : (o : Standing) (m : List ℕ) → Holds (o .first) (heldNow (o .result)) m → LastTaken o → hasPut o ++ toCome o m [] ≡ hasPut (answerLast o)
+last-same o m h t = go (eqb (heldNow (o .result)) 0) refl
+  where
+    go : (b : Bool) → eqb (heldNow (o .result)) 0 ≡ b → hasPut o ++ toCome o m [] ≡ hasPut (cond (not b) (answerNext (10 ∷ []) o) o)
+    go true e = none-to-come o m h (eqb-true (heldNow (o .result)) 0 e)
+    go false e =
+        let w : 1 ≤ answerNext (10 ∷ []) o .result .cut .at = t (ap not e) in
+        let g = pieces-same ((10 ∷ []) ∷ []) m o h (w, tt) in
+        let n : length m ≡ 0 → ⊥ = λ z. eqb-false (heldNow (o .result)) 0 e (omega (arith, h .count, z)) in
+        ap (λ (x : List (List ℕ)). hasPut o ++ answersTo (length (o .first)) (keptIn o) x) (last-line m n)
+        ∙ g .same .all
+        ∙ none-to-come (answerNext (10 ∷ []) o) (g .held) (g .same .holds) (newline-ends o w)
+
+-- THE THEOREM: from the start, and where there was room for all, the bytes put are the answers to the lines of the text, one after the other
+pub answers-are : (ps : List (List ℕ)) (line out store large small : List ℕ) → AllTaken ps (standingNone line out store large small) → LastTaken (answerPieces ps (standingNone line out store large small))
+    → hasPut (answerLast (answerPieces ps (standingNone line out store large small))) ≡ answersTo (length line) (keptIn (standingNone line out store large small)) (linesFrom [] (textOf ps))
+answers-are ps line out store large small t u =
+    let g = pieces-same ps [] (standingNone line out store large small) (holds-none line) t in
+    sym (g .same .all ∙ last-same (answerPieces ps (standingNone line out store large small)) (g .held) (g .same .holds) u)

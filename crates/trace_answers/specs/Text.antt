@@ -1,7 +1,7 @@
 -- The answers to an input: a function of its lines alone. Assumes nothing.
 use Prim.Native.Nat.{ℕ, _+_, _≤_}
 use mathlib.Core.Path.{_≡_}
-use mathlib.Core.Bool.{cond}
+use mathlib.Core.Bool.{true, cond}
 use mathlib.Core.List.{List, [], _∷_, _++_}
 use lib.Dec.{ltb, eqb}
 use lib.ListN.{length, take}
@@ -12,7 +12,7 @@ use Rattle.trace_readers.specs.State.{refusedBy, notUnderstood}
 use Rattle.trace_run.specs.Follow.{noRoom, followOf}
 use Rattle.trace_answers.specs.declared.input.Answering.{Answering}
 use Rattle.trace_answers.specs.Shown.{shownText}
-use Rattle.trace_answers.specs.Input.{Left5, Standing, answeringNone, nextLine, nextPiece, answerPiece}
+use Rattle.trace_answers.specs.Input.{Left5, Standing, answeringNone, nextLine, isOpen, nextPiece, answerPiece}
 
 -- THE LINES OF A TEXT, cut at its newlines; a last one without a newline counts. l is what has come already of the first
 abbrev pub linesFrom : List ℕ → List ℕ → List (List ℕ)
@@ -67,6 +67,13 @@ textOf (p ∷ ps) = p ++ textOf ps
 abbrev pub AllTaken : List (List ℕ) → Standing → Type 0
 AllTaken [] o = Unit {0}
 AllTaken (p ∷ ps) o = (length p ≤ answerNext p o .result .cut .at) × AllTaken ps (answerNext p o)
+
+-- the input's end ends a line that has begun, as a newline does
+abbrev pub answerLast : Standing → Standing
+answerLast o = cond (isOpen (o .result)) (answerNext (10 ∷ []) o) o
+
+abbrev pub LastTaken : Standing → Type 0
+LastTaken o = isOpen (o .result) ≡ true → 1 ≤ answerNext (10 ∷ []) o .result .cut .at
 
 -- at first
 abbrev pub standingNone : List ℕ → List ℕ → List ℕ → List ℕ → List ℕ → Standing
