@@ -1,7 +1,6 @@
 -- The answers to an input: a function of its lines alone. Assumes nothing.
-use Prim.Native.Nat.{ℕ, _+_, _≤_}
-use mathlib.Core.Path.{_≡_}
-use mathlib.Core.Bool.{true, cond}
+use Prim.Native.Nat.{ℕ, zero, suc, _+_}
+use mathlib.Core.Bool.{Bool, cond}
 use mathlib.Core.List.{List, [], _∷_, _++_}
 use lib.Dec.{ltb, eqb}
 use lib.ListN.{length, take}
@@ -12,7 +11,7 @@ use Rattle.trace_readers.specs.State.{refusedBy, notUnderstood}
 use Rattle.trace_run.specs.Follow.{noRoom, followOf}
 use Rattle.trace_answers.specs.declared.input.Answering.{Answering}
 use Rattle.trace_answers.specs.Shown.{shownText}
-use Rattle.trace_answers.specs.Input.{Left5, Standing, answeringNone, nextLine, isOpen, nextPiece, answerPiece}
+use Rattle.trace_answers.specs.Input.{Left5, Standing, answeringNone, nextLine, isOpen, nextPiece, nothingWaits, answerPiece}
 
 -- THE LINES OF A TEXT, cut at its newlines; a last one without a newline counts. l is what has come already of the first
 abbrev pub linesFrom : List ℕ → List ℕ → List (List ℕ)
@@ -52,28 +51,39 @@ hasPut o = take (o .result .filled) (o .second)
 abbrev pub toCome : Standing → List ℕ → List ℕ → List ℕ
 toCome o l s = answersTo (length (o .first)) (keptIn o) (linesFrom l s)
 
--- AN INPUT IN PIECES, one after the other; its text; and that there was room for all its answers, so that each piece was taken to its end
-abbrev pub answerNext : List ℕ → Standing → Standing
-answerNext p o = answerPiece (nextPiece (o .result)) p (o .first) (o .second) (o .third) (o .fourth) (o .fifth)
+-- AN INPUT IN PIECES. In a turn the lines of the piece under way are answered from where the answering stands, as long as there is room
+abbrev pub turned : List ℕ → Standing → Standing
+turned p o = answerPiece (o .result) p (o .first) (o .second) (o .third) (o .fourth) (o .fifth)
 
-abbrev pub answerPieces : List (List ℕ) → Standing → Standing
-answerPieces [] o = o
-answerPieces (p ∷ ps) o = answerPieces ps (answerNext p o)
+abbrev pub standing : Answering → Standing → Standing
+standing r o = record { result = r; first = o .first; second = o .second; third = o .third; fourth = o .fourth; fifth = o .fifth }
+
+-- the piece that comes next, of those to come. The input's end ends a line that has begun, as a newline does
+abbrev pub comesNext : Bool → List (List ℕ) → List ℕ
+comesNext begun [] = cond begun (10 ∷ []) []
+comesNext begun (q ∷ qs) = q
+
+abbrev pub later : List (List ℕ) → List (List ℕ)
+later [] = []
+later (q ∷ qs) = qs
+
+-- all that is written in k turns, with the piece p under way and ps to come: what was put is written after each turn, and where a piece is taken to
+-- its end the next one comes
+abbrev pub output : ℕ → List ℕ → List (List ℕ) → Standing → List ℕ
+output zero p ps o = []
+output (suc k) p ps o =
+    cond (ltb (o .result .cut .at) (length p))
+    (hasPut (turned p o) ++ output k p ps (standing (nothingWaits (turned p o .result)) (turned p o)))
+    (output k (comesNext (isOpen (o .result)) ps) (later ps) (standing (nextPiece (o .result)) o))
+
+-- so many turns are enough: one for each byte, one to come to each piece, and three for the end
+abbrev pub enough : List (List ℕ) → ℕ
+enough [] = 3
+enough (q ∷ qs) = suc (length q + enough qs)
 
 abbrev pub textOf : List (List ℕ) → List ℕ
 textOf [] = []
 textOf (p ∷ ps) = p ++ textOf ps
-
-abbrev pub AllTaken : List (List ℕ) → Standing → Type 0
-AllTaken [] o = Unit {0}
-AllTaken (p ∷ ps) o = (length p ≤ answerNext p o .result .cut .at) × AllTaken ps (answerNext p o)
-
--- the input's end ends a line that has begun, as a newline does
-abbrev pub answerLast : Standing → Standing
-answerLast o = cond (isOpen (o .result)) (answerNext (10 ∷ []) o) o
-
-abbrev pub LastTaken : Standing → Type 0
-LastTaken o = isOpen (o .result) ≡ true → 1 ≤ answerNext (10 ∷ []) o .result .cut .at
 
 -- at first
 abbrev pub standingNone : List ℕ → List ℕ → List ℕ → List ℕ → List ℕ → Standing
