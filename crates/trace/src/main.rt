@@ -69,41 +69,40 @@ fn write_out(out: &[u8], filled: usize) -> bool {
     io::write_all(STDOUT_FILENO, &out[start..n])
 }
 
-// The last line's answer in words, in place of its figures.
-fn in_words(a: Answering, line: &[u8], out: &mut [u8]) -> Answering {
-    let cut = a.cut;
-    if !cut.ended {
-        return a;
+// The place after the next newline, or the end: in words, one line is answered at a time.
+fn line_end(piece: &[u8], from: usize) -> usize {
+    let mut i = from;
+    while i < piece.len() {
+        if piece[i] == 10 {
+            return i + 1;
+        }
+        i += 1;
     }
-    let followed = a.followed;
+    piece.len()
+}
+
+// How far the piece goes that is to be answered.
+fn reach(explain: bool, piece: &[u8], from: usize, bytes: usize) -> usize
+    ensures { λ r. ⌜ r ≤ length (now (piece .entry)) ⌝ }
+{
+    let n = smaller(bytes, piece.len());
+    if !explain {
+        return n;
+    }
+    smaller(line_end(piece, from), n)
+}
+
+// With --explain, the line's answer in words in place of its figures; how far the output then goes.
+fn in_words(explain: bool, a: Answering, line: &[u8], out: &mut [u8]) -> usize {
+    let filled = a.filled;
+    if !explain | (filled == 0) {
+        return filled;
+    }
+    let cut = a.cut;
     let start = 0;
     let shown = smaller(cut.held, line.len());
     let too_long = line.len() < cut.held;
-    let filled = put_explained(out, 0, a.lines, &line[start..shown], too_long, followed);
-    Answering {
-        followed,
-        cut,
-        lines: a.lines,
-        filled,
-    }
-}
-
-// As many lines of the piece as there is room for; in words, one.
-fn answered(
-    a: Answering,
-    explain: bool,
-    piece: &[u8],
-    line: &mut [u8],
-    out: &mut [u8],
-    store: &mut [u8],
-    large: &mut [u64],
-    small: &mut [u64],
-) -> Answering {
-    if !explain {
-        return a.answer_piece(piece, line, out, store, large, small);
-    }
-    let one = a.answer_line(piece, line, out, store, large, small);
-    in_words(one, line, out)
+    put_explained(out, 0, a.lines, &line[start..shown], too_long, a.followed)
 }
 
 impl Run {
@@ -125,8 +124,9 @@ impl Run {
     }
 
     // What was put is written.
-    fn after(self, a: Answering, out: &[u8]) -> Run {
-        let ok = write_out(out, a.filled);
+    fn after(self, explain: bool, a: Answering, line: &[u8], out: &mut [u8]) -> Run {
+        let filled = in_words(explain, a, line, out);
+        let ok = write_out(out, filled);
         let answering = a.with_nothing_waiting();
         Run {
             answering,
@@ -158,18 +158,11 @@ fn to_the_end(
     let mut turns: u64 = 18446744073709551615;
     while 0 < turns {
         r = r.refilled(piece);
-        let n = smaller(r.bytes, piece.len());
-        let a = answered(
-            r.answering,
-            explain,
-            &piece[start..n],
-            line,
-            out,
-            store,
-            large,
-            small,
-        );
-        r = r.after(a, out);
+        let now = r.answering;
+        let cut = now.cut;
+        let n = reach(explain, piece, cut.at, r.bytes);
+        let a = now.answer_piece(&piece[start..n], line, out, store, large, small);
+        r = r.after(explain, a, line, out);
         if r.bytes == 0 {
             turns = 0;
         } else {

@@ -4,5 +4,6 @@ pub mod InputLaws
 pub mod PieceLaws
 pub mod LineMeaning
 pub mod PiecesMeaning
+pub mod RoomEnough
 pub mod Before
 pub mod Unique

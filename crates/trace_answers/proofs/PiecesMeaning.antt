@@ -59,7 +59,7 @@ line-same o piece l u h room = go (c .result .ended) refl
     go false e = record { held = l ++ lineIn s; same = subst (λ (x : List ℕ). Same o whenOpen l (l ++ lineIn s) (s ++ u) (x ++ u)) (sym past) (open-same o s l u h c refl (ends ∙ e) e) }
 
 -- the lines of a piece
-right-true : (a b : Bool) → (a && b) ≡ true → b ≡ true
+pub right-true : (a b : Bool) → (a && b) ≡ true → b ≡ true
 right-true true b e = e
 right-true false true e = refl
 right-true false false e = e

@@ -16,10 +16,10 @@ use Rattle.trace_lines.proofs.set.numbers_in.Statement.{statement}
 use Rattle.trace_lines.proofs.set.numbers_in.Tie as tie
 
 abbrev Inv-loop : tie.InvT-loop
-Inv-loop s at least room₀ i₀ m₀ n₀ room i m n = (n ≤ length room₀) × (length room ≡ length room₀) × (listedIn (length room₀) least (drop at s) ≡ prefixed (take n room) (listedIn (length room₀ - n) m (drop i s)))
+Inv-loop s at least room₀ unlisted i₀ m₀ n₀ room i m n = (n ≤ length room₀) × (length room ≡ length room₀) × (listedIn (length room₀) least (drop at s) ≡ prefixed (take n room) (listedIn (length room₀ - n) m (drop i s)))
 
 abbrev μ-loop : tie.MeasureT-loop
-μ-loop s at least room₀ i₀ m₀ n₀ room i m n = length room₀ - n
+μ-loop s at least room₀ unlisted i₀ m₀ n₀ room i m n = length room₀ - n
 
 loop-holds : tie.Need-loop-holds Inv-loop μ-loop
 loop-holds c = (omega arith, refl, rw sub-zero (sym (prefixed-none _)))
