@@ -4,6 +4,5 @@ pub mod InputLaws
 pub mod PieceLaws
 pub mod LineMeaning
 pub mod PiecesMeaning
-pub mod RoomEnough
 pub mod Before
 pub mod Unique
