@@ -25,10 +25,19 @@ of-numbers-requires : tie.Need-of-numbers-requires
 of-numbers-requires c κs = search needs
 
 returns : tie.Need-returns
-returns c = asked-many (c .before .before .before .before .before .before .args .base) (c .before .before .before .before .before .before .args .numbers .now) (c .before .before .before .before .from-rank .result) (c .before .before .before .before .from-rank .ensures) (c .before .before .before .of-numbers .result) (c .before .before .before .of-numbers .ensures) (c .if1 .taken)
+returns c =
+    let args = c .before .before .before .before .before .before .args in
+    let from-rank = c .before .before .before .before .from-rank in
+    let of-numbers = c .before .before .before .of-numbers in
+    asked-many (args .base) (args .numbers .now) (from-rank .result) (from-rank .ensures) (of-numbers .result) (of-numbers .ensures) (c .if1 .taken)
 
 returns-2 : tie.Need-returns-2
-returns-2 c = asked-set (c .before .before .before .before .before .before .before .args .base) (c .before .before .before .before .before .before .before .args .numbers .now) (c .before .before .before .before .before .from-rank .result) (c .before .before .before .before .before .from-rank .ensures) (c .before .before .before .before .of-numbers .result) (c .before .before .before .before .of-numbers .ensures) (c .before .if1 .left)
+returns-2 c =
+    let args = c .before .before .before .before .before .before .before .args in
+    let from-rank = c .before .before .before .before .before .from-rank in
+    let of-numbers = c .before .before .before .before .of-numbers in
+    let if1 = c .before .if1 in
+    asked-set (args .base) (args .numbers .now) (from-rank .result) (from-rank .ensures) (of-numbers .result) (of-numbers .ensures) (if1 .left)
 
 pub asked-spec : {M : Type 1} → statement M
 asked-spec = tie.close (tie.spec from-rank-requires of-numbers-requires returns returns-2)

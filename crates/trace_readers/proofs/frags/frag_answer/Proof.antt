@@ -44,7 +44,14 @@ of-requires : tie.Need-of-requires
 of-requires c κs = search needs
 
 returns : tie.Need-returns
-returns c = rw (c .of .ensures, c .before .before .none .ensures, c .before .frags-ok .ensures, c .before .before .before .before .before .rank .ensures, c .before .before .before .before .is-sample .ensures, c .before .before .before .reaches .ensures, too-high (members (fragmentSet (c .before .before .before .before .before .before .before .before .args .set))))
+returns c =
+    let args = c .before .before .before .before .before .before .before .before .args in
+    let rank = c .before .before .before .before .before .rank in
+    let is-sample = c .before .before .before .before .is-sample in
+    let reaches = c .before .before .before .reaches in
+    let none = c .before .before .none in
+    let frags-ok = c .before .frags-ok in
+    rw (c .of .ensures, none .ensures, frags-ok .ensures, rank .ensures, is-sample .ensures, reaches .ensures, too-high (members (fragmentSet (args .set))))
 
 pub frag-answer-spec : {M : Type 1} → statement M
 frag-answer-spec =

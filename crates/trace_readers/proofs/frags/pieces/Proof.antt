@@ -54,7 +54,13 @@ pieces-with-requires-3 : tie.Need-pieces-with-requires-3
 pieces-with-requires-3 c κs = search needs
 
 returns-3 : tie.Need-returns-3
-returns-3 c = above-asked (c .before .before .before .before .before .before .before .before .args .numbers .now) (c .before .before .before .before .before .before .if1 .left) (c .before .before .before .above .result) (c .before .before .before .above .ensures) (c .before .before .if2 .left) (c .before .if3 .taken) (c .pieces-with3 .result) (c .pieces-with3 .ensures)
+returns-3 c =
+    let args = c .before .before .before .before .before .before .before .before .args in
+    let if1 = c .before .before .before .before .before .before .if1 in
+    let above = c .before .before .before .above in
+    let if2 = c .before .before .if2 in
+    let if3 = c .before .if3 in
+    above-asked (args .numbers .now) (if1 .left) (above .result) (above .ensures) (if2 .left) (if3 .taken) (c .pieces-with3 .result) (c .pieces-with3 .ensures)
 
 from-rank-requires : tie.Need-from-rank-requires
 from-rank-requires c κs = search needs
@@ -63,7 +69,15 @@ of-numbers-requires : tie.Need-of-numbers-requires
 of-numbers-requires c κs = search needs
 
 returns-4 : tie.Need-returns-4
-returns-4 c = these-asked (c .before .before .before .before .before .before .before .before .before .before .args .numbers .now) (c .before .before .before .before .before .before .before .before .if1 .left) (c .before .before .before .before .before .above .result) (c .before .before .before .before .before .above .ensures) (c .before .before .before .before .if2 .left) (c .before .before .before .if3 .left) (c .before .before .from-rank .result) (c .before .before .from-rank .ensures) (c .before .of-numbers .result) (c .before .of-numbers .ensures)
+returns-4 c =
+    let args = c .before .before .before .before .before .before .before .before .before .before .args in
+    let if1 = c .before .before .before .before .before .before .before .before .if1 in
+    let above = c .before .before .before .before .before .above in
+    let if2 = c .before .before .before .before .if2 in
+    let if3 = c .before .before .before .if3 in
+    let from-rank = c .before .before .from-rank in
+    let of-numbers = c .before .of-numbers in
+    these-asked (args .numbers .now) (if1 .left) (above .result) (above .ensures) (if2 .left) (if3 .left) (from-rank .result) (from-rank .ensures) (of-numbers .result) (of-numbers .ensures)
 
 pub pieces-spec : {M : Type 1} → statement M
 pieces-spec =

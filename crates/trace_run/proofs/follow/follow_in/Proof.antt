@@ -45,7 +45,13 @@ same-length-4 : tie.Need-same-length-4
 same-length-4 c = search needs
 
 returns : tie.Need-returns
-returns c = follow-later (length (c .before .before .before .before .before .before .before .before .before .before .before .before .before .before .before .before .before .before .before .before .before .args .numbers .now)) (c .before .before .before .before .before .before .before .before .before .before .before .before .before .before .before .before .before .before .before .before .before .args .line .now) (c .before .before .before .before .before .before .before .before .before .before .before .before .before .before .before .before .before .before .before .before .before .args .trace) (c .before .before .before .before .before .before .before .before .before .before .before .before .before .before .before .before .before .before .before .before .before .args .store .now) (c .before .before .before .before .before .before .before .before .before .before .before .before .before .before .before .before .before .before .before .before .before .args .large .now) (c .before .before .before .before .before .before .before .before .before .before .before .before .before .before .before .before .before .before .before .before .before .args .small .now) (c .before .before .before .before .before .before .before .before .before .before .before .before .before .before .read-line .result) (c .before .before .before .before .before .before .before .before .before .before .before .before .before .before .read-line .last .1 .0) (c .before .before .before .before .before .before .before .before .before .before .before .before .before .before .read-line .ensures) (c .before .before .before .before .before .before .before .before .before .before .before .if1 .taken) (c .before .before .before .before .before .before .later-line .result) (c .before .before .before .before .before .before .later-line .last .1 .1 .1 .0) (c .before .before .before .before .before .before .later-line .last .1 .1 .1 .1 .0) (c .before .before .before .before .before .before .later-line .last .1 .1 .1 .1 .1 .0) (c .before .before .before .before .before .before .later-line .ensures)
+returns c =
+    let args = c .before .before .before .before .before .before .before .before .before .before .before .before .before .before .before .before .before .before .before .before .before .args in
+    let read-line = c .before .before .before .before .before .before .before .before .before .before .before .before .before .before .read-line in
+    let if1 = c .before .before .before .before .before .before .before .before .before .before .before .if1 in
+    let later-line = c .before .before .before .before .before .before .later-line in
+    follow-later (length (args .numbers .now)) (args .line .now) (args .trace) (args .store .now) (args .large .now) (args .small .now) (read-line .result) (read-line .last .1 .0) (read-line .ensures) (if1 .taken)
+    (later-line .result) (later-line .last .1 .1 .1 .0) (later-line .last .1 .1 .1 .1 .0) (later-line .last .1 .1 .1 .1 .1 .0) (later-line .ensures)
 
 first-line-requires : tie.Need-first-line-requires
 first-line-requires c κs = search needs
@@ -54,7 +60,12 @@ same-length-5 : tie.Need-same-length-5
 same-length-5 c = search needs
 
 returns-2 : tie.Need-returns-2
-returns-2 c = follow-first (length (c .before .before .before .before .before .before .before .before .before .before .before .args .numbers .now)) (c .before .before .before .before .before .before .before .before .before .before .before .args .line .now) (c .before .before .before .before .before .before .before .before .before .before .before .args .trace) (c .before .before .before .before .before .before .before .before .before .before .before .args .store .now) (c .before .before .before .before .before .before .before .before .before .before .before .args .large .now) (c .before .before .before .before .before .before .before .before .before .before .before .args .small .now) (c .before .before .before .before .read-line .result) (c .before .before .before .before .read-line .last .1 .0) (c .before .before .before .before .read-line .ensures) (c .before .if1 .left) (c .first-line .result) (c .first-line .ensures)
+returns-2 c =
+    let args = c .before .before .before .before .before .before .before .before .before .before .before .args in
+    let read-line = c .before .before .before .before .read-line in
+    let if1 = c .before .if1 in
+    follow-first (length (args .numbers .now)) (args .line .now) (args .trace) (args .store .now) (args .large .now) (args .small .now) (read-line .result) (read-line .last .1 .0) (read-line .ensures) (if1 .left)
+    (c .first-line .result) (c .first-line .ensures)
 
 pub follow-in-spec : {M : Type 1} → statement M
 follow-in-spec =

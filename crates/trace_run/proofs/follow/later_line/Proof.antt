@@ -101,7 +101,11 @@ not-understood-requires : tie.Need-not-understood-requires
 not-understood-requires c κs = search needs
 
 returns : tie.Need-returns
-returns c = gives-as _ _ (ap (λ (x : Command). laterBy x (c .before .before .before .before .before .before .before .before .args .numbers .now) (c .before .before .before .before .before .before .before .before .args .trace) (c .before .before .before .before .before .before .before .before .args .store .now) (c .before .before .before .before .before .before .before .before .args .large .now) (c .before .before .before .before .before .before .before .before .args .small .now)) (sym (c .before .before .c .given .1))) (record { result = c .match-step .ensures; first = refl; second = refl; third = refl })
+returns c =
+    let args = c .before .before .before .before .before .before .before .before .args in
+    let c′ = c .before .before .c in
+    gives-as _ _ (ap (λ (x : Command). laterBy x (args .numbers .now) (args .trace) (args .store .now) (args .large .now) (args .small .now)) (sym (c′ .given .1)))
+    (record { result = c .match-step .ensures; first = refl; second = refl; third = refl })
 
 same-length : tie.Need-same-length
 same-length c = search needs
@@ -110,7 +114,12 @@ same-length-2 : tie.Need-same-length-2
 same-length-2 c = search needs
 
 returns-2 : tie.Need-returns-2
-returns-2 c = gives-as _ _ (ap (λ (x : Command). laterBy x (c .before .before .before .before .before .before .before .before .before .before .before .before .before .before .args .numbers .now) (c .before .before .before .before .before .before .before .before .before .before .before .before .before .before .args .trace) (c .before .before .before .before .before .before .before .before .before .before .before .before .before .before .args .store .now) (c .before .before .before .before .before .before .before .before .before .before .before .before .before .before .args .large .now) (c .before .before .before .before .before .before .before .before .before .before .before .before .before .before .args .small .now)) (sym (c .before .before .before .before .before .before .before .before .c2 .given .1))) (record { result = c .before .before .before .before .write-step .ensures .result; first = c .before .before .before .before .write-step .ensures .first; second = c .before .before .before .before .write-step .ensures .second; third = refl })
+returns-2 c =
+    let args = c .before .before .before .before .before .before .before .before .before .before .before .before .before .before .args in
+    let c2 = c .before .before .before .before .before .before .before .before .c2 in
+    let write-step = c .before .before .before .before .write-step in
+    gives-as _ _ (ap (λ (x : Command). laterBy x (args .numbers .now) (args .trace) (args .store .now) (args .large .now) (args .small .now)) (sym (c2 .given .1)))
+    (record { result = write-step .ensures .result; first = write-step .ensures .first; second = write-step .ensures .second; third = refl })
 
 same-length-3 : tie.Need-same-length-3
 same-length-3 c = search needs
@@ -119,13 +128,24 @@ same-length-4 : tie.Need-same-length-4
 same-length-4 c = search needs
 
 returns-3 : tie.Need-returns-3
-returns-3 c = gives-as _ _ (ap (λ (x : Command). laterBy x (c .before .before .before .before .before .before .before .before .before .before .before .before .before .before .before .before .args .numbers .now) (c .before .before .before .before .before .before .before .before .before .before .before .before .before .before .before .before .args .trace) (c .before .before .before .before .before .before .before .before .before .before .before .before .before .before .before .before .args .store .now) (c .before .before .before .before .before .before .before .before .before .before .before .before .before .before .before .before .args .large .now) (c .before .before .before .before .before .before .before .before .before .before .before .before .before .before .before .before .args .small .now)) (sym (c .before .before .before .before .before .before .before .before .before .before .c3 .given .1))) (ack-arm (c .before .before .before .before .before .before .before .before .before .before .c3 .given .0 .0) (c .before .before .before .before .before .before .before .before .before .before .c3 .given .0 .1 .0) (c .before .before .before .before .before .before .before .before .before .before .c3 .given .0 .1 .1 .0) (c .before .before .before .before .before .before .before .before .smaller .result) (c .before .before .before .before .before .before .before .before .before .before .before .before .before .before .before .before .args .numbers .now) (c .before .before .before .before .before .before .before .before .before .before .before .before .before .before .before .before .args .trace) (c .before .before .before .before .before .before .before .before .before .before .before .before .before .before .before .before .args .store .now) (c .before .before .before .before .before .before .before .before .before .before .before .before .before .before .before .before .args .large .now) (c .before .before .before .before .before .before .before .before .before .before .before .before .before .before .before .before .args .small .now) (c .before .before .before .before .before .before .before .before .smaller .ensures) (c .before .before .before .before .ack-step .ensures))
+returns-3 c =
+    let args = c .before .before .before .before .before .before .before .before .before .before .before .before .before .before .before .before .args in
+    let c3 = c .before .before .before .before .before .before .before .before .before .before .c3 in
+    let smaller = c .before .before .before .before .before .before .before .before .smaller in
+    let ack-step = c .before .before .before .before .ack-step in
+    gives-as _ _ (ap (λ (x : Command). laterBy x (args .numbers .now) (args .trace) (args .store .now) (args .large .now) (args .small .now)) (sym (c3 .given .1)))
+    (ack-arm (c3 .given .0 .0) (c3 .given .0 .1 .0) (c3 .given .0 .1 .1 .0) (smaller .result) (args .numbers .now) (args .trace) (args .store .now) (args .large .now) (args .small .now) (smaller .ensures) (ack-step .ensures))
 
 same-length-5 : tie.Need-same-length-5
 same-length-5 c = search needs
 
 returns-4 : tie.Need-returns-4
-returns-4 c = gives-as _ _ (ap (λ (x : Command). laterBy x (c .before .before .before .before .before .before .before .before .before .before .before .args .numbers .now) (c .before .before .before .before .before .before .before .before .before .before .before .args .trace) (c .before .before .before .before .before .before .before .before .before .before .before .args .store .now) (c .before .before .before .before .before .before .before .before .before .before .before .args .large .now) (c .before .before .before .before .before .before .before .before .before .before .before .args .small .now)) (sym (c .before .before .before .before .before .c4 .given .1))) (record { result = c .before .before .sent-step .ensures .result; first = refl; second = c .before .before .sent-step .ensures .first; third = refl })
+returns-4 c =
+    let args = c .before .before .before .before .before .before .before .before .before .before .before .args in
+    let c4 = c .before .before .before .before .before .c4 in
+    let sent-step = c .before .before .sent-step in
+    gives-as _ _ (ap (λ (x : Command). laterBy x (args .numbers .now) (args .trace) (args .store .now) (args .large .now) (args .small .now)) (sym (c4 .given .1)))
+    (record { result = sent-step .ensures .result; first = refl; second = sent-step .ensures .first; third = refl })
 
 same-length-6 : tie.Need-same-length-6
 same-length-6 c = search needs
@@ -134,13 +154,28 @@ same-length-7 : tie.Need-same-length-7
 same-length-7 c = search needs
 
 returns-5 : tie.Need-returns-5
-returns-5 c = gives-as _ _ (ap (λ (x : Command). laterBy x (c .before .before .before .before .before .before .before .before .before .before .before .before .before .before .before .before .args .numbers .now) (c .before .before .before .before .before .before .before .before .before .before .before .before .before .before .before .before .args .trace) (c .before .before .before .before .before .before .before .before .before .before .before .before .before .before .before .before .args .store .now) (c .before .before .before .before .before .before .before .before .before .before .before .before .before .before .before .before .args .large .now) (c .before .before .before .before .before .before .before .before .before .before .before .before .before .before .before .before .args .small .now)) (sym (c .before .before .before .before .before .before .before .before .before .before .c5 .given .1))) (frag-arm (c .before .before .before .before .before .before .before .before .before .before .c5 .given .0 .0) (c .before .before .before .before .before .before .before .before .before .before .c5 .given .0 .1 .0) (c .before .before .before .before .before .before .before .before .before .before .c5 .given .0 .1 .1 .0) (c .before .before .before .before .before .before .before .before .smaller2 .result) (c .before .before .before .before .before .before .before .before .before .before .before .before .before .before .before .before .args .numbers .now) (c .before .before .before .before .before .before .before .before .before .before .before .before .before .before .before .before .args .trace) (c .before .before .before .before .before .before .before .before .before .before .before .before .before .before .before .before .args .store .now) (c .before .before .before .before .before .before .before .before .before .before .before .before .before .before .before .before .args .large .now) (c .before .before .before .before .before .before .before .before .before .before .before .before .before .before .before .before .args .small .now) (c .before .before .before .before .before .before .before .before .smaller2 .ensures) (c .before .before .before .before .frag-step .ensures))
+returns-5 c =
+    let args = c .before .before .before .before .before .before .before .before .before .before .before .before .before .before .before .before .args in
+    let c5 = c .before .before .before .before .before .before .before .before .before .before .c5 in
+    let smaller2 = c .before .before .before .before .before .before .before .before .smaller2 in
+    let frag-step = c .before .before .before .before .frag-step in
+    gives-as _ _ (ap (λ (x : Command). laterBy x (args .numbers .now) (args .trace) (args .store .now) (args .large .now) (args .small .now)) (sym (c5 .given .1)))
+    (frag-arm (c5 .given .0 .0) (c5 .given .0 .1 .0) (c5 .given .0 .1 .1 .0) (smaller2 .result) (args .numbers .now) (args .trace) (args .store .now) (args .large .now) (args .small .now) (smaller2 .ensures) (frag-step .ensures))
 
 returns-6 : tie.Need-returns-6
-returns-6 c = gives-as _ _ (ap (λ (x : Command). laterBy x (c .before .before .before .before .before .before .before .before .args .numbers .now) (c .before .before .before .before .before .before .before .before .args .trace) (c .before .before .before .before .before .before .before .before .args .store .now) (c .before .before .before .before .before .before .before .before .args .large .now) (c .before .before .before .before .before .before .before .before .args .small .now)) (sym (c .before .before .c6 .given .1))) (record { result = c .evict-step .ensures; first = refl; second = refl; third = refl })
+returns-6 c =
+    let args = c .before .before .before .before .before .before .before .before .args in
+    let c6 = c .before .before .c6 in
+    gives-as _ _ (ap (λ (x : Command). laterBy x (args .numbers .now) (args .trace) (args .store .now) (args .large .now) (args .small .now)) (sym (c6 .given .1)))
+    (record { result = c .evict-step .ensures; first = refl; second = refl; third = refl })
 
 returns-7 : tie.Need-returns-7
-returns-7 c = gives-as (noRoom (refusedBy notUnderstood (c .before .before .before .before .before .before .args .trace)) (c .before .before .before .before .before .before .args .store .now) (c .before .before .before .before .before .before .args .large .now) (c .before .before .before .before .before .before .args .small .now)) _ (sym (other-later (c .before .before .before .before .before .before .args .c) (c .before .before .before .before .before .before .args .numbers .now) (c .before .before .before .before .before .before .args .trace) (c .before .before .before .before .before .before .args .store .now) (c .before .before .before .before .before .before .args .large .now) (c .before .before .before .before .before .before .args .small .now) (c .before .match .keys7))) (record { result = c .not-understood .ensures; first = refl; second = refl; third = refl })
+returns-7 c =
+    let args = c .before .before .before .before .before .before .args in
+    let match = c .before .match in
+    gives-as (noRoom (refusedBy notUnderstood (args .trace)) (args .store .now) (args .large .now) (args .small .now)) _
+    (sym (other-later (args .c) (args .numbers .now) (args .trace) (args .store .now) (args .large .now) (args .small .now) (match .keys7)))
+    (record { result = c .not-understood .ensures; first = refl; second = refl; third = refl })
 
 pub later-line-spec : {M : Type 1} → statement M
 later-line-spec =

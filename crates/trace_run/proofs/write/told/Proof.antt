@@ -28,7 +28,11 @@ same-length : tie.Need-same-length
 same-length c = search needs
 
 returns-2 : tie.Need-returns-2
-returns-2 c = is-told (c .before .before .before .before .before .before .before .before .args .head) (c .before .before .before .before .before .before .before .before .args .n) (c .before .before .before .before .before .before .before .before .args .proxy) (c .before .before .before .before .before .before .before .before .args .unsent .now) (c .before .before .before .before .before .if1 .left) (c .before .before .before .notify-new-cache-change .result) (c .before .before .before .notify-new-cache-change .last .1 .0) (c .before .before .before .notify-new-cache-change .ensures)
+returns-2 c =
+    let args = c .before .before .before .before .before .before .before .before .args in
+    let if1 = c .before .before .before .before .before .if1 in
+    let notify-new-cache-change = c .before .before .before .notify-new-cache-change in
+    is-told (args .head) (args .n) (args .proxy) (args .unsent .now) (if1 .left) (notify-new-cache-change .result) (notify-new-cache-change .last .1 .0) (notify-new-cache-change .ensures)
 
 pub told-spec : {M : Type 1} → statement M
 told-spec = tie.close (tie.spec returns notify-new-cache-change-requires same-length returns-2)

@@ -58,7 +58,11 @@ same-length : tie.Need-same-length
 same-length c = search needs
 
 returns : tie.Need-returns
-returns c = told-both (c .before .before .before .before .before .before .before .before .before .before .before .before .before .args .trace) (c .before .before .before .before .before .before .before .before .before .before .before .before .before .args .n) (c .before .before .before .before .before .before .before .before .before .before .before .before .before .args .large .now) (c .before .before .before .before .before .before .before .told .result) (c .before .before .before .before .before .before .before .told .last .1 .1 .0) (c .before .before .before .before .before .before .before .told .ensures) (c .before .before .told2 .result) (c .before .before .told2 .last .1 .1 .0) (c .before .before .told2 .ensures)
+returns c =
+    let args = c .before .before .before .before .before .before .before .before .before .before .before .before .before .args in
+    let told = c .before .before .before .before .before .before .before .told in
+    let told2 = c .before .before .told2 in
+    told-both (args .trace) (args .n) (args .large .now) (told .result) (told .last .1 .1 .0) (told .ensures) (told2 .result) (told2 .last .1 .1 .0) (told2 .ensures)
 
 pub told-both-spec : {M : Type 1} → statement M
 told-both-spec =

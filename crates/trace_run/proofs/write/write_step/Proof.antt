@@ -30,7 +30,11 @@ incoherent-requires-2 : tie.Need-incoherent-requires-2
 incoherent-requires-2 c κs = search needs
 
 returns-2 : tie.Need-returns-2
-returns-2 c = write-large (c .before .before .before .before .before .args .len) (c .before .before .before .before .before .args .trace) (c .before .before .before .before .before .args .store .now) (c .before .before .before .before .before .args .large .now) (c .incoherent2 .result) (c .before .before .if1 .left) (c .before .if2 .taken) (c .incoherent2 .ensures)
+returns-2 c =
+    let args = c .before .before .before .before .before .args in
+    let if1 = c .before .before .if1 in
+    let if2 = c .before .if2 in
+    write-large (args .len) (args .trace) (args .store .now) (args .large .now) (c .incoherent2 .result) (if1 .left) (if2 .taken) (c .incoherent2 .ensures)
 
 slice-aggregate-zeros : tie.Need-slice-aggregate-zeros
 slice-aggregate-zeros c = search needs
@@ -57,7 +61,13 @@ same-length-2 : tie.Need-same-length-2
 same-length-2 c = search needs
 
 returns-3 : tie.Need-returns-3
-returns-3 c = write-line (c .before .before .before .before .before .before .before .before .before .before .before .before .before .before .args .len) (c .before .before .before .before .before .before .before .before .before .before .before .before .before .before .args .trace) (c .before .before .before .before .before .before .before .before .before .before .before .before .before .before .args .store .now) (c .before .before .before .before .before .before .before .before .before .before .before .before .before .before .args .large .now) (c .before .before .before .before .before .before .before .before .before .before .before .if1 .left) (c .before .before .before .before .before .before .before .before .before .before .if2 .left) (c .before .before .before .before .before .before .before .before .smaller .result) (c .before .before .before .before .before .before .before .before .smaller .ensures) (c .before .before .before .before .written .result) (c .before .before .before .before .written .last .1 .1 .0) (c .before .before .before .before .written .last .1 .1 .1 .0) (c .before .before .before .before .written .ensures)
+returns-3 c =
+    let args = c .before .before .before .before .before .before .before .before .before .before .before .before .before .before .args in
+    let if1 = c .before .before .before .before .before .before .before .before .before .before .before .if1 in
+    let if2 = c .before .before .before .before .before .before .before .before .before .before .if2 in
+    let smaller = c .before .before .before .before .before .before .before .before .smaller in
+    let written = c .before .before .before .before .written in
+    write-line (args .len) (args .trace) (args .store .now) (args .large .now) (if1 .left) (if2 .left) (smaller .result) (smaller .ensures) (written .result) (written .last .1 .1 .0) (written .last .1 .1 .1 .0) (written .ensures)
 
 pub write-step-spec : {M : Type 1} → statement M
 write-step-spec =

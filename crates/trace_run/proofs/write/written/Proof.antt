@@ -36,7 +36,12 @@ same-length : tie.Need-same-length
 same-length c = search needs
 
 returns : tie.Need-returns
-returns c = write-refused (c .before .before .before .before .before .before .before .before .before .args .payload .now) (c .before .before .before .before .before .before .before .before .before .args .trace) (c .before .before .before .before .before .before .before .before .before .args .store .now) (c .before .before .before .before .before .before .before .before .before .args .large .now) (c .before .before .before .coherence .result) (c .before .before .before .coherence .ensures ∙ ap ownAnswer (c .before .before .before .before .both-ok .ensures)) (c .before .if1 .taken) (c .refused .result) (c .refused .ensures)
+returns c =
+    let args = c .before .before .before .before .before .before .before .before .before .args in
+    let both-ok = c .before .before .before .before .both-ok in
+    let coherence = c .before .before .before .coherence in
+    let if1 = c .before .if1 in
+    write-refused (args .payload .now) (args .trace) (args .store .now) (args .large .now) (coherence .result) (coherence .ensures ∙ ap ownAnswer (both-ok .ensures)) (if1 .taken) (c .refused .result) (c .refused .ensures)
 
 admitted-in-requires : tie.Need-admitted-in-requires
 admitted-in-requires c κs = search needs
@@ -51,13 +56,24 @@ same-length-3 : tie.Need-same-length-3
 same-length-3 c = search needs
 
 returns-2 : tie.Need-returns-2
-returns-2 c = admit-refused (c .before .before .before .before .before .before .before .before .before .before .before .before .before .before .before .before .before .before .before .before .args .payload .now) (c .before .before .before .before .before .before .before .before .before .before .before .before .before .before .before .before .before .before .before .before .args .trace) (c .before .before .before .before .before .before .before .before .before .before .before .before .before .before .before .before .before .before .before .before .args .store .now) (c .before .before .before .before .before .before .before .before .before .before .before .before .before .before .before .before .before .before .before .before .args .large .now) (c .before .before .before .before .before .before .before .before .before .before .before .before .before .before .coherence .result) (c .before .before .before .before .before .before .before .before .before .before .before .before .before .before .coherence .ensures ∙ ap ownAnswer (c .before .before .before .before .before .before .before .before .before .before .before .before .before .before .before .both-ok .ensures)) (c .before .before .before .before .before .before .before .before .before .before .before .before .if1 .left) (c .before .before .before .before .before .before .before .before .before .admitted-in .result) (c .before .before .before .before .before .before .before .before .before .admitted-in .last .1 .1 .0) (c .before .before .before .before .before .before .before .before .before .admitted-in .last .1 .1 .1 .0) (c .before .before .before .before .before .before .before .before .before .admitted-in .ensures) (c .before .if2 .taken) (c .refused2 .result) (c .refused2 .ensures)
+returns-2 c =
+    let args = c .before .before .before .before .before .before .before .before .before .before .before .before .before .before .before .before .before .before .before .before .args in
+    let both-ok = c .before .before .before .before .before .before .before .before .before .before .before .before .before .before .before .both-ok in
+    let coherence = c .before .before .before .before .before .before .before .before .before .before .before .before .before .before .coherence in
+    let if1 = c .before .before .before .before .before .before .before .before .before .before .before .before .if1 in
+    let admitted-in = c .before .before .before .before .before .before .before .before .before .admitted-in in
+    let if2 = c .before .if2 in
+    admit-refused (args .payload .now) (args .trace) (args .store .now) (args .large .now) (coherence .result) (coherence .ensures ∙ ap ownAnswer (both-ok .ensures)) (if1 .left) (admitted-in .result)
+    (admitted-in .last .1 .1 .0) (admitted-in .last .1 .1 .1 .0) (admitted-in .ensures) (if2 .taken) (c .refused2 .result) (c .refused2 .ensures)
 
 with-flow-requires : tie.Need-with-flow-requires
 with-flow-requires c κs = search needs
 
 told-both-requires : tie.Need-told-both-requires
-told-both-requires c κs = c .before .before .before .before .before .before .before .before .before .before .before .admitted-in .kept .1 .1 .1 .0 ∙ c .before .before .before .before .before .before .before .before .before .before .before .before .before .before .before .before .before .before .before .before .before .before .pre .1
+told-both-requires c κs =
+    let pre = c .before .before .before .before .before .before .before .before .before .before .before .before .before .before .before .before .before .before .before .before .before .before .pre in
+    let admitted-in = c .before .before .before .before .before .before .before .before .before .before .before .admitted-in in
+    admitted-in .kept .1 .1 .1 .0 ∙ pre .1
 
 same-length-4 : tie.Need-same-length-4
 same-length-4 c = c .before .before .before .before .before .before .before .before .before .before .before .before .before .before .admitted-in .kept .1 .1 .0
@@ -66,7 +82,17 @@ same-length-5 : tie.Need-same-length-5
 same-length-5 c = c .before .before .told-both .kept .1 .0 ∙ c .before .before .before .before .before .before .before .before .before .before .before .before .before .before .admitted-in .kept .1 .1 .1 .0
 
 returns-3 : tie.Need-returns-3
-returns-3 c = write-done (c .before .before .before .before .before .before .before .before .before .before .before .before .before .before .before .before .before .before .before .before .before .before .before .before .before .args .payload .now) (c .before .before .before .before .before .before .before .before .before .before .before .before .before .before .before .before .before .before .before .before .before .before .before .before .before .args .trace) (c .before .before .before .before .before .before .before .before .before .before .before .before .before .before .before .before .before .before .before .before .before .before .before .before .before .args .store .now) (c .before .before .before .before .before .before .before .before .before .before .before .before .before .before .before .before .before .before .before .before .before .before .before .before .before .args .large .now) (c .before .before .before .before .before .before .before .before .before .before .before .before .before .before .before .before .before .before .before .coherence .result) (c .before .before .before .before .before .before .before .before .before .before .before .before .before .before .before .before .before .before .before .coherence .ensures ∙ ap ownAnswer (c .before .before .before .before .before .before .before .before .before .before .before .before .before .before .before .before .before .before .before .before .both-ok .ensures)) (c .before .before .before .before .before .before .before .before .before .before .before .before .before .before .before .before .before .if1 .left) (c .before .before .before .before .before .before .before .before .before .before .before .before .before .before .admitted-in .result) (c .before .before .before .before .before .before .before .before .before .before .before .before .before .before .admitted-in .last .1 .1 .0) (c .before .before .before .before .before .before .before .before .before .before .before .before .before .before .admitted-in .last .1 .1 .1 .0) (c .before .before .before .before .before .before .before .before .before .before .before .before .before .before .admitted-in .ensures) (c .before .before .before .before .before .before .if2 .left) (c .before .before .before .before .with-flow .result) (c .before .before .before .before .with-flow .ensures) (c .before .before .told-both .result) (c .before .before .told-both .last .1 .0) (c .before .before .told-both .ensures)
+returns-3 c =
+    let args = c .before .before .before .before .before .before .before .before .before .before .before .before .before .before .before .before .before .before .before .before .before .before .before .before .before .args in
+    let both-ok = c .before .before .before .before .before .before .before .before .before .before .before .before .before .before .before .before .before .before .before .before .both-ok in
+    let coherence = c .before .before .before .before .before .before .before .before .before .before .before .before .before .before .before .before .before .before .before .coherence in
+    let if1 = c .before .before .before .before .before .before .before .before .before .before .before .before .before .before .before .before .before .if1 in
+    let admitted-in = c .before .before .before .before .before .before .before .before .before .before .before .before .before .before .admitted-in in
+    let if2 = c .before .before .before .before .before .before .if2 in
+    let with-flow = c .before .before .before .before .with-flow in
+    let told-both = c .before .before .told-both in
+    write-done (args .payload .now) (args .trace) (args .store .now) (args .large .now) (coherence .result) (coherence .ensures ∙ ap ownAnswer (both-ok .ensures)) (if1 .left) (admitted-in .result)
+    (admitted-in .last .1 .1 .0) (admitted-in .last .1 .1 .1 .0) (admitted-in .ensures) (if2 .left) (with-flow .result) (with-flow .ensures) (told-both .result) (told-both .last .1 .0) (told-both .ensures)
 
 pub written-spec : {M : Type 1} → statement M
 written-spec =

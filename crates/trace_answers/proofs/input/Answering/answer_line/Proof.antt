@@ -29,7 +29,13 @@ same-length : tie.Need-same-length
 same-length c = search needs
 
 returns : tie.Need-returns
-returns c = line-open (c .before .before .before .before .before .before .before .before .before .before .before .before .before .before .before .args .self) (c .before .before .before .before .before .before .before .before .before .before .before .before .before .before .before .args .piece .now) (c .before .before .before .before .before .before .before .before .before .before .before .before .before .before .before .args .line .now) (c .before .before .before .before .before .before .before .before .before .before .before .before .before .before .before .args .out .now) (c .before .before .before .before .before .before .before .before .before .before .before .before .before .before .before .args .store .now) (c .before .before .before .before .before .before .before .before .before .before .before .before .before .before .before .args .large .now) (c .before .before .before .before .before .before .before .before .before .before .before .before .before .before .before .args .small .now) (c .before .before .before .before .before .take-line .result) (c .before .before .before .before .before .before .held .result) (c .before .before .before .before .before .take-line .last .1 .1 .0) (c .before .before .before .before .before .before .held .ensures) (c .before .before .before .before .before .take-line .ensures) (c .with-cut .result) (not-true (c .before .before .before .before .before .take-line .result .ended) (c .before .if1 .taken)) (c .with-cut .ensures)
+returns c =
+    let args = c .before .before .before .before .before .before .before .before .before .before .before .before .before .before .before .args in
+    let held = c .before .before .before .before .before .before .held in
+    let take-line = c .before .before .before .before .before .take-line in
+    let if1 = c .before .if1 in
+    line-open (args .self) (args .piece .now) (args .line .now) (args .out .now) (args .store .now) (args .large .now) (args .small .now) (take-line .result) (held .result) (take-line .last .1 .1 .0) (held .ensures)
+    (take-line .ensures) (c .with-cut .result) (not-true (take-line .result .ended) (if1 .taken)) (c .with-cut .ensures)
 
 follow-held-requires : tie.Need-follow-held-requires
 follow-held-requires c κs = search needs
@@ -53,7 +59,16 @@ same-length-6 : tie.Need-same-length-6
 same-length-6 c = search needs
 
 returns-2 : tie.Need-returns-2
-returns-2 c = line-ended (c .before .before .before .before .before .before .before .before .before .before .before .before .before .before .before .before .before .before .before .before .before .before .before .before .before .before .before .before .before .before .args .self) (c .before .before .before .before .before .before .before .before .before .before .before .before .before .before .before .before .before .before .before .before .before .before .before .before .before .before .before .before .before .before .args .piece .now) (c .before .before .before .before .before .before .before .before .before .before .before .before .before .before .before .before .before .before .before .before .before .before .before .before .before .before .before .before .before .before .args .line .now) (c .before .before .before .before .before .before .before .before .before .before .before .before .before .before .before .before .before .before .before .before .before .before .before .before .before .before .before .before .before .before .args .out .now) (c .before .before .before .before .before .before .before .before .before .before .before .before .before .before .before .before .before .before .before .before .before .before .before .before .before .before .before .before .before .before .args .store .now) (c .before .before .before .before .before .before .before .before .before .before .before .before .before .before .before .before .before .before .before .before .before .before .before .before .before .before .before .before .before .before .args .large .now) (c .before .before .before .before .before .before .before .before .before .before .before .before .before .before .before .before .before .before .before .before .before .before .before .before .before .before .before .before .before .before .args .small .now) (c .before .before .before .before .before .before .before .before .before .before .before .before .before .before .before .before .before .before .before .before .take-line .result) (c .before .before .before .before .before .before .before .before .before .before .before .before .before .before .before .before .before .before .before .before .before .held .result) (c .before .before .before .before .before .before .before .before .before .before .before .before .before .before .before .before .before .before .before .before .take-line .last .1 .1 .0) (c .before .before .before .before .before .before .before .before .before .before .before .before .before .before .before .before .before .before .before .before .before .held .ensures) (c .before .before .before .before .before .before .before .before .before .before .before .before .before .before .before .before .before .before .before .before .take-line .ensures) (c .before .before .before .before .before .before .before .before .before .before .follow-held .result) (c .before .before .before .before .before .before .before .before .before .before .follow-held .last .1 .1 .1 .0) (c .before .before .before .before .before .before .before .before .before .before .follow-held .last .1 .1 .1 .1 .0) (c .before .before .before .before .before .before .before .before .before .before .follow-held .last .1 .1 .1 .1 .1 .0) (c .before .before .shown .result) (c .before .before .shown .last .1 .1 .1 .0) (not-false (c .before .before .before .before .before .before .before .before .before .before .before .before .before .before .before .before .before .before .before .before .take-line .result .ended) (c .before .before .before .before .before .before .before .before .before .before .before .before .before .before .before .before .if1 .left)) (c .before .before .before .before .before .before .before .before .before .before .follow-held .ensures) (c .before .before .shown .ensures)
+returns-2 c =
+    let args = c .before .before .before .before .before .before .before .before .before .before .before .before .before .before .before .before .before .before .before .before .before .before .before .before .before .before .before .before .before .before .args in
+    let held = c .before .before .before .before .before .before .before .before .before .before .before .before .before .before .before .before .before .before .before .before .before .held in
+    let take-line = c .before .before .before .before .before .before .before .before .before .before .before .before .before .before .before .before .before .before .before .before .take-line in
+    let if1 = c .before .before .before .before .before .before .before .before .before .before .before .before .before .before .before .before .if1 in
+    let follow-held = c .before .before .before .before .before .before .before .before .before .before .follow-held in
+    let shown = c .before .before .shown in
+    line-ended (args .self) (args .piece .now) (args .line .now) (args .out .now) (args .store .now) (args .large .now) (args .small .now) (take-line .result) (held .result) (take-line .last .1 .1 .0) (held .ensures)
+    (take-line .ensures) (follow-held .result) (follow-held .last .1 .1 .1 .0) (follow-held .last .1 .1 .1 .1 .0) (follow-held .last .1 .1 .1 .1 .1 .0) (shown .result) (shown .last .1 .1 .1 .0)
+    (not-false (take-line .result .ended) (if1 .left)) (follow-held .ensures) (shown .ensures)
 
 pub answer-line-spec : {M : Type 1} → statement M
 answer-line-spec =

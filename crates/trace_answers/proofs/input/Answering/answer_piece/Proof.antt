@@ -30,10 +30,43 @@ answer-line-requires : tie.Need-answer-line-requires Inv-loop μ-loop
 answer-line-requires c κs = search needs
 
 loop-less : tie.Need-loop-less Inv-loop μ-loop
-loop-less c = omega (arith, line-goes (c .before .before .before .before .before .before .before .before .before .before .before .before .before .before .before .before .before .before .before .loop .r) (c .before .before .before .before .before .before .before .before .before .before .answer-line .result) (c .before .before .before .before .before .before .before .before .before .before .before .before .before .before .before .before .before .before .before .before .before .before .before .before .before .before .args .piece .now) (c .before .before .before .before .before .before .before .before .before .before .before .before .before .before .before .before .before .before .before .loop .line) (c .before .before .before .before .before .before .before .before .before .before .before .before .before .before .before .before .before .before .before .loop .out) (c .before .before .before .before .before .before .before .before .before .before .before .before .before .before .before .before .before .before .before .loop .store) (c .before .before .before .before .before .before .before .before .before .before .before .before .before .before .before .before .before .before .before .loop .large) (c .before .before .before .before .before .before .before .before .before .before .before .before .before .before .before .before .before .before .before .loop .small) (c .before .before .before .before .before .before .before .before .before .before .answer-line .last .1 .1 .0) (c .before .before .before .before .before .before .before .before .before .before .answer-line .last .1 .1 .1 .0) (c .before .before .before .before .before .before .before .before .before .before .answer-line .last .1 .1 .1 .1 .0) (c .before .before .before .before .before .before .before .before .before .before .answer-line .last .1 .1 .1 .1 .1 .0) (c .before .before .before .before .before .before .before .before .before .before .answer-line .last .1 .1 .1 .1 .1 .1 .0) (more-there (c .before .before .before .before .before .before .before .before .before .before .before .before .before .before .before .before .before .before .before .loop .r) (c .before .before .before .before .before .before .before .before .before .before .before .before .before .before .before .before .before .before .before .before .before .before .before .before .before .before .args .piece .now) (c .before .before .before .before .before .before .before .before .before .before .before .before .before .before .before .before .before .before .before .loop .out) (sym (c .before .before .before .before .before .before .before .before .before .before .before .before .before .before .before .before .before .goes-on .ensures) ∙ c .before .before .before .before .before .before .before .before .before .before .before .before .before .before .before .before .if1 .taken)) (c .before .before .before .before .before .before .before .before .before .before .answer-line .ensures), more-there (c .before .before .before .before .before .before .before .before .before .before .before .before .before .before .before .before .before .before .before .loop .r) (c .before .before .before .before .before .before .before .before .before .before .before .before .before .before .before .before .before .before .before .before .before .before .before .before .before .before .args .piece .now) (c .before .before .before .before .before .before .before .before .before .before .before .before .before .before .before .before .before .before .before .loop .out) (sym (c .before .before .before .before .before .before .before .before .before .before .before .before .before .before .before .before .before .goes-on .ensures) ∙ c .before .before .before .before .before .before .before .before .before .before .before .before .before .before .before .before .if1 .taken))
+loop-less c =
+    let args = c .before .before .before .before .before .before .before .before .before .before .before .before .before .before .before .before .before .before .before .before .before .before .before .before .before .before .args in
+    let loop = c .before .before .before .before .before .before .before .before .before .before .before .before .before .before .before .before .before .before .before .loop in
+    let goes-on = c .before .before .before .before .before .before .before .before .before .before .before .before .before .before .before .before .before .goes-on in
+    let if1 = c .before .before .before .before .before .before .before .before .before .before .before .before .before .before .before .before .if1 in
+    let answer-line = c .before .before .before .before .before .before .before .before .before .before .answer-line in
+    omega (
+      arith,
+      line-goes (loop .r) (answer-line .result) (args .piece .now) (loop .line) (loop .out) (loop .store) (loop .large) (loop .small) (answer-line .last .1 .1 .0) (answer-line .last .1 .1 .1 .0)
+          (answer-line .last .1 .1 .1 .1 .0) (answer-line .last .1 .1 .1 .1 .1 .0) (answer-line .last .1 .1 .1 .1 .1 .1 .0) (more-there (loop .r) (args .piece .now) (loop .out) (sym (goes-on .ensures) ∙ if1 .taken))
+          (answer-line .ensures),
+      more-there (loop .r) (args .piece .now) (loop .out) (sym (goes-on .ensures) ∙ if1 .taken),
+    )
 
 loop-again : tie.Need-loop-again Inv-loop μ-loop
-loop-again c = (c .before .before .before .before .before .before .before .before .before .before .answer-line .kept .1 .1 .0 ∙ c .before .before .before .before .before .before .before .before .before .before .before .before .before .before .before .before .before .before .before .loop .inv .0, (c .before .before .before .before .before .before .before .before .before .before .answer-line .kept .1 .1 .1 .0 ∙ c .before .before .before .before .before .before .before .before .before .before .before .before .before .before .before .before .before .before .before .loop .inv .1 .0, (c .before .before .before .before .before .before .before .before .before .before .answer-line .kept .1 .1 .1 .1 .0 ∙ c .before .before .before .before .before .before .before .before .before .before .before .before .before .before .before .before .before .before .before .loop .inv .1 .1 .0, (c .before .before .before .before .before .before .before .before .before .before .answer-line .kept .1 .1 .1 .1 .1 .0 ∙ c .before .before .before .before .before .before .before .before .before .before .before .before .before .before .before .before .before .before .before .loop .inv .1 .1 .1 .0, (c .before .before .before .before .before .before .before .before .before .before .answer-line .kept .1 .1 .1 .1 .1 .1 .0 ∙ c .before .before .before .before .before .before .before .before .before .before .before .before .before .before .before .before .before .before .before .loop .inv .1 .1 .1 .1 .0, going-next (c .before .before .before .before .before .before .before .before .before .before .before .before .before .before .before .before .before .before .before .before .before .before .before .before .before .before .args .piece .now) _ _ (c .before .before .before .before .before .before .before .before .before .before .answer-line .result) (c .before .before .before .before .before .before .before .before .before .before .answer-line .last .1 .1 .0) (c .before .before .before .before .before .before .before .before .before .before .answer-line .last .1 .1 .1 .0) (c .before .before .before .before .before .before .before .before .before .before .answer-line .last .1 .1 .1 .1 .0) (c .before .before .before .before .before .before .before .before .before .before .answer-line .last .1 .1 .1 .1 .1 .0) (c .before .before .before .before .before .before .before .before .before .before .answer-line .last .1 .1 .1 .1 .1 .1 .0) (sym (c .before .before .before .before .before .before .before .before .before .before .before .before .before .before .before .before .before .goes-on .ensures) ∙ c .before .before .before .before .before .before .before .before .before .before .before .before .before .before .before .before .if1 .taken) (c .before .before .before .before .before .before .before .before .before .before .before .before .before .before .before .before .before .before .before .loop .inv .1 .1 .1 .1 .1) (c .before .before .before .before .before .before .before .before .before .before .answer-line .ensures))))))
+loop-again c =
+    let args = c .before .before .before .before .before .before .before .before .before .before .before .before .before .before .before .before .before .before .before .before .before .before .before .before .before .before .args in
+    let loop = c .before .before .before .before .before .before .before .before .before .before .before .before .before .before .before .before .before .before .before .loop in
+    let goes-on = c .before .before .before .before .before .before .before .before .before .before .before .before .before .before .before .before .before .goes-on in
+    let if1 = c .before .before .before .before .before .before .before .before .before .before .before .before .before .before .before .before .if1 in
+    let answer-line = c .before .before .before .before .before .before .before .before .before .before .answer-line in (
+      answer-line .kept .1 .1 .0 ∙ loop .inv .0,
+      (
+        answer-line .kept .1 .1 .1 .0 ∙ loop .inv .1 .0,
+        (
+          answer-line .kept .1 .1 .1 .1 .0 ∙ loop .inv .1 .1 .0,
+          (
+            answer-line .kept .1 .1 .1 .1 .1 .0 ∙ loop .inv .1 .1 .1 .0,
+            (
+              answer-line .kept .1 .1 .1 .1 .1 .1 .0 ∙ loop .inv .1 .1 .1 .1 .0,
+              going-next (args .piece .now) _ _ (answer-line .result) (answer-line .last .1 .1 .0) (answer-line .last .1 .1 .1 .0)
+                  (answer-line .last .1 .1 .1 .1 .0) (answer-line .last .1 .1 .1 .1 .1 .0) (answer-line .last .1 .1 .1 .1 .1 .1 .0) (sym (goes-on .ensures) ∙ if1 .taken) (loop .inv .1 .1 .1 .1 .1) (answer-line .ensures),
+            ),
+          ),
+        ),
+      ),
+    )
 
 same-length : tie.Need-same-length Inv-loop μ-loop
 same-length c = c .before .before .before .loop .inv .0

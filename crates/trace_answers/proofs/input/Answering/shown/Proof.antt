@@ -22,7 +22,11 @@ same-length : tie.Need-same-length
 same-length c = search needs
 
 returns : tie.Need-returns
-returns c = shown-as (c .before .before .before .before .before .before .args .cut) (c .before .before .before .before .before .before .args .followed) (c .before .before .before .before .before .before .args .self) (c .before .before .before .before .before .before .args .out .now) (c .before .before .before .before .next-line .result) (c .before .before .put-followed .result) (c .before .before .put-followed .last .0) (c .before .before .before .before .next-line .ensures) (c .before .before .put-followed .ensures)
+returns c =
+    let args = c .before .before .before .before .before .before .args in
+    let next-line = c .before .before .before .before .next-line in
+    let put-followed = c .before .before .put-followed in
+    shown-as (args .cut) (args .followed) (args .self) (args .out .now) (next-line .result) (put-followed .result) (put-followed .last .0) (next-line .ensures) (put-followed .ensures)
 
 pub shown-spec : {M : Type 1} → statement M
 shown-spec = tie.close (tie.spec next-line-requires put-followed-requires same-length returns)

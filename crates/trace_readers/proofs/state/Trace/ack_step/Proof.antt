@@ -24,13 +24,20 @@ incoherent-requires : tie.Need-incoherent-requires
 incoherent-requires c κs = search needs
 
 returns : tie.Need-returns
-returns c = ack-large (c .before .before .before .before .before .args .id) (c .before .before .before .before .before .args .base) (c .before .before .before .before .before .args .numbers .now) (c .before .before .before .before .before .args .self) (c .before .before .before .before .before .args .large .now) (c .before .before .before .before .before .args .small .now) (c .incoherent .result) (c .before .if1 .taken) (c .incoherent .ensures)
+returns c =
+    let args = c .before .before .before .before .before .args in
+    let if1 = c .before .if1 in
+    ack-large (args .id) (args .base) (args .numbers .now) (args .self) (args .large .now) (args .small .now) (c .incoherent .result) (if1 .taken) (c .incoherent .ensures)
 
 incoherent-requires-2 : tie.Need-incoherent-requires-2
 incoherent-requires-2 c κs = search needs
 
 returns-2 : tie.Need-returns-2
-returns-2 c = ack-small (c .before .before .before .before .before .before .args .id) (c .before .before .before .before .before .before .args .base) (c .before .before .before .before .before .before .args .numbers .now) (c .before .before .before .before .before .before .args .self) (c .before .before .before .before .before .before .args .large .now) (c .before .before .before .before .before .before .args .small .now) (c .incoherent2 .result) (c .before .before .if1 .left) (c .before .if2 .taken) (c .incoherent2 .ensures)
+returns-2 c =
+    let args = c .before .before .before .before .before .before .args in
+    let if1 = c .before .before .if1 in
+    let if2 = c .before .if2 in
+    ack-small (args .id) (args .base) (args .numbers .now) (args .self) (args .large .now) (args .small .now) (c .incoherent2 .result) (if1 .left) (if2 .taken) (c .incoherent2 .ensures)
 
 asked-requires : tie.Need-asked-requires
 asked-requires c κs = search needs
@@ -54,7 +61,16 @@ same-length-2 : tie.Need-same-length-2
 same-length-2 c = search needs
 
 returns-3 : tie.Need-returns-3
-returns-3 c = ack-line (c .before .before .before .before .before .before .before .before .before .before .before .before .before .before .before .before .before .args .id) (c .before .before .before .before .before .before .before .before .before .before .before .before .before .before .before .before .before .args .base) (c .before .before .before .before .before .before .before .before .before .before .before .before .before .before .before .before .before .args .numbers .now) (c .before .before .before .before .before .before .before .before .before .before .before .before .before .before .before .before .before .args .self) (c .before .before .before .before .before .before .before .before .before .before .before .before .before .before .before .before .before .args .large .now) (c .before .before .before .before .before .before .before .before .before .before .before .before .before .before .before .before .before .args .small .now) (c .before .before .before .before .before .before .before .before .before .before .before .before .before .if1 .left) (c .before .before .before .before .before .before .before .before .before .before .before .before .if2 .left) (c .before .before .before .before .before .before .before .before .before .before .before .asked .result) (c .before .before .before .before .before .before .before .before .before .before .before .asked .ensures) (c .before .before .before .before .before .before .before .before .before .lookup-in-2 .result) (c .before .before .before .before .before .before .before .before .before .lookup-in-2 .ensures) (c .before .before .before .before .before .before .before .before .is-first .result) (c .before .before .before .before .before .before .before .before .is-first .ensures) (c .before .before .before .before .before .ack-taken .result) (c .before .before .before .before .before .ack-taken .last .1 .1 .1 .1 .0) (c .before .before .before .before .before .ack-taken .last .1 .1 .1 .1 .1 .0) (c .before .before .before .before .before .ack-taken .ensures) (c .acked .result) (c .acked .ensures)
+returns-3 c =
+    let args = c .before .before .before .before .before .before .before .before .before .before .before .before .before .before .before .before .before .args in
+    let if1 = c .before .before .before .before .before .before .before .before .before .before .before .before .before .if1 in
+    let if2 = c .before .before .before .before .before .before .before .before .before .before .before .before .if2 in
+    let asked = c .before .before .before .before .before .before .before .before .before .before .before .asked in
+    let lookup-in-2 = c .before .before .before .before .before .before .before .before .before .lookup-in-2 in
+    let is-first = c .before .before .before .before .before .before .before .before .is-first in
+    let ack-taken = c .before .before .before .before .before .ack-taken in
+    ack-line (args .id) (args .base) (args .numbers .now) (args .self) (args .large .now) (args .small .now) (if1 .left) (if2 .left) (asked .result) (asked .ensures) (lookup-in-2 .result) (lookup-in-2 .ensures)
+    (is-first .result) (is-first .ensures) (ack-taken .result) (ack-taken .last .1 .1 .1 .1 .0) (ack-taken .last .1 .1 .1 .1 .1 .0) (ack-taken .ensures) (c .acked .result) (c .acked .ensures)
 
 pub ack-step-spec : {M : Type 1} → statement M
 ack-step-spec =

@@ -69,7 +69,14 @@ same-length-2 : tie.Need-same-length-2
 same-length-2 c = search needs
 
 returns : tie.Need-returns
-returns c = ack-part (c .before .before .before .before .before .before .before .before .before .before .before .before .before .before .args .first) (c .before .before .before .before .before .before .before .before .before .before .before .before .before .before .args .id) (c .before .before .before .before .before .before .before .before .before .before .before .before .before .before .args .set) (c .before .before .before .before .before .before .before .before .before .before .before .before .before .before .args .self) (c .before .before .before .before .before .before .before .before .before .before .before .before .before .before .args .large .now) (c .before .before .before .before .before .before .before .before .before .before .before .before .before .before .args .small .now) (c .before .before .before .before .before .before .before .before .before .before .before .unsent-at .result) (c .before .before .before .before .before .before .before .before .before .before .gaps-at .result) (c .before .before .before .before .before .before .before .reader .result) (c .before .before .before .before .take-ack-nack-in-2 .result) (c .before .before .before .before .take-ack-nack-in-2 .last .1 .1 .1 .0) (c .before .before .before .before .take-ack-nack-in-2 .last .1 .1 .1 .1 .0) (c .before .before .before .before .before .before .before .before .before .before .before .unsent-at .ensures .0) (c .before .before .before .before .before .before .before .before .before .before .gaps-at .ensures .0) (c .before .before .before .before .before .before .before .reader .ensures) (c .before .before .before .before .take-ack-nack-in-2 .ensures)
+returns c =
+    let args = c .before .before .before .before .before .before .before .before .before .before .before .before .before .before .args in
+    let unsent-at = c .before .before .before .before .before .before .before .before .before .before .before .unsent-at in
+    let gaps-at = c .before .before .before .before .before .before .before .before .before .before .gaps-at in
+    let reader = c .before .before .before .before .before .before .before .reader in
+    let take-ack-nack-in-2 = c .before .before .before .before .take-ack-nack-in-2 in
+    ack-part (args .first) (args .id) (args .set) (args .self) (args .large .now) (args .small .now) (unsent-at .result) (gaps-at .result) (reader .result) (take-ack-nack-in-2 .result)
+    (take-ack-nack-in-2 .last .1 .1 .1 .0) (take-ack-nack-in-2 .last .1 .1 .1 .1 .0) (unsent-at .ensures .0) (gaps-at .ensures .0) (reader .ensures) (take-ack-nack-in-2 .ensures)
 
 pub ack-taken-spec : {M : Type 1} → statement M
 ack-taken-spec =

@@ -44,7 +44,15 @@ same-length-2 : tie.Need-same-length-2
 same-length-2 c = search needs
 
 returns : tie.Need-returns
-returns c = ask-refused (c .before .before .before .before .before .before .before .before .before .before .args .first) (c .before .before .before .before .before .before .before .before .before .before .args .looked) (c .before .before .before .before .before .before .before .before .before .before .args .n) (c .before .before .before .before .before .before .before .before .before .before .args .set) (c .before .before .before .before .before .before .before .before .before .before .args .self) (c .before .before .before .before .before .before .before .before .before .before .args .samples .now) (c .before .before .before .before .before .before .before .before .before .before .args .words .now) (c .before .before .before .earlier .result) (ask-asked (c .before .before .before .before .before .before .before .before .before .before .args .first) (c .before .before .before .before .before .before .before .before .before .before .args .looked) (c .before .before .before .before .before .before .before .before .before .before .args .n) (c .before .before .before .before .before .before .before .before .before .before .args .set) (c .before .before .before .before .before .before .before .before .before .before .args .self) (c .before .before .before .before .before .before .before .before .before .before .args .samples .now) (c .before .before .before .before .before .before .before .before .before .before .args .words .now) (c .before .before .before .before .before .before .before .reader .result) (c .before .before .before .before .before .before .before .reader .ensures) (c .before .before .before .before .frag-answer .result) (c .before .before .before .before .frag-answer .ensures) (c .before .before .before .earlier .result) (c .before .before .before .earlier .ensures)) (c .before .if1 .taken) (c .refused .result) (c .refused .ensures)
+returns c =
+    let args = c .before .before .before .before .before .before .before .before .before .before .args in
+    let reader = c .before .before .before .before .before .before .before .reader in
+    let frag-answer = c .before .before .before .before .frag-answer in
+    let earlier = c .before .before .before .earlier in
+    let if1 = c .before .if1 in
+    ask-refused (args .first) (args .looked) (args .n) (args .set) (args .self) (args .samples .now) (args .words .now) (earlier .result)
+    (ask-asked (args .first) (args .looked) (args .n) (args .set) (args .self) (args .samples .now) (args .words .now) (reader .result) (reader .ensures) (frag-answer .result) (frag-answer .ensures) (earlier .result)
+    (earlier .ensures)) (if1 .taken) (c .refused .result) (c .refused .ensures)
 
 mark-frags-requested-requires : tie.Need-mark-frags-requested-requires
 mark-frags-requested-requires c κs = search needs
@@ -59,7 +67,17 @@ same-length-4 : tie.Need-same-length-4
 same-length-4 c = search needs
 
 returns-2 : tie.Need-returns-2
-returns-2 c = ask-done (c .before .before .before .before .before .before .before .before .before .before .before .before .before .before .before .before .before .before .args .first) (c .before .before .before .before .before .before .before .before .before .before .before .before .before .before .before .before .before .before .args .looked) (c .before .before .before .before .before .before .before .before .before .before .before .before .before .before .before .before .before .before .args .n) (c .before .before .before .before .before .before .before .before .before .before .before .before .before .before .before .before .before .before .args .set) (c .before .before .before .before .before .before .before .before .before .before .before .before .before .before .before .before .before .before .args .self) (c .before .before .before .before .before .before .before .before .before .before .before .before .before .before .before .before .before .before .args .samples .now) (c .before .before .before .before .before .before .before .before .before .before .before .before .before .before .before .before .before .before .args .words .now) (c .before .before .before .before .before .before .before .before .before .before .before .earlier .result) (ask-asked (c .before .before .before .before .before .before .before .before .before .before .before .before .before .before .before .before .before .before .args .first) (c .before .before .before .before .before .before .before .before .before .before .before .before .before .before .before .before .before .before .args .looked) (c .before .before .before .before .before .before .before .before .before .before .before .before .before .before .before .before .before .before .args .n) (c .before .before .before .before .before .before .before .before .before .before .before .before .before .before .before .before .before .before .args .set) (c .before .before .before .before .before .before .before .before .before .before .before .before .before .before .before .before .before .before .args .self) (c .before .before .before .before .before .before .before .before .before .before .before .before .before .before .before .before .before .before .args .samples .now) (c .before .before .before .before .before .before .before .before .before .before .before .before .before .before .before .before .before .before .args .words .now) (c .before .before .before .before .before .before .before .before .before .before .before .before .before .before .before .reader .result) (c .before .before .before .before .before .before .before .before .before .before .before .before .before .before .before .reader .ensures) (c .before .before .before .before .before .before .before .before .before .before .before .before .frag-answer .result) (c .before .before .before .before .before .before .before .before .before .before .before .before .frag-answer .ensures) (c .before .before .before .before .before .before .before .before .before .before .before .earlier .result) (c .before .before .before .before .before .before .before .before .before .before .before .earlier .ensures)) (c .before .before .before .before .before .before .before .before .before .if1 .left) (c .before .before .before .before .before .before .before .before .before .before .before .before .before .before .before .reader .result) (c .before .before .before .before .before .before .before .before .before .before .before .before .before .before .before .reader .ensures) (c .before .before .before .before .before .before .mark-frags-requested .result) (c .before .before .before .before .before .before .mark-frags-requested .last .1 .0) (c .before .before .before .before .before .before .mark-frags-requested .last .1 .1 .0) (c .before .before .before .before .before .before .mark-frags-requested .ensures) (c .with-reader .result) (c .with-reader .ensures)
+returns-2 c =
+    let args = c .before .before .before .before .before .before .before .before .before .before .before .before .before .before .before .before .before .before .args in
+    let reader = c .before .before .before .before .before .before .before .before .before .before .before .before .before .before .before .reader in
+    let frag-answer = c .before .before .before .before .before .before .before .before .before .before .before .before .frag-answer in
+    let earlier = c .before .before .before .before .before .before .before .before .before .before .before .earlier in
+    let if1 = c .before .before .before .before .before .before .before .before .before .if1 in
+    let mark-frags-requested = c .before .before .before .before .before .before .mark-frags-requested in
+    ask-done (args .first) (args .looked) (args .n) (args .set) (args .self) (args .samples .now) (args .words .now) (earlier .result)
+    (ask-asked (args .first) (args .looked) (args .n) (args .set) (args .self) (args .samples .now) (args .words .now) (reader .result) (reader .ensures) (frag-answer .result) (frag-answer .ensures) (earlier .result)
+    (earlier .ensures)) (if1 .left) (reader .result) (reader .ensures) (mark-frags-requested .result) (mark-frags-requested .last .1 .0) (mark-frags-requested .last .1 .1 .0) (mark-frags-requested .ensures)
+    (c .with-reader .result) (c .with-reader .ensures)
 
 pub asked-of-spec : {M : Type 1} → statement M
 asked-of-spec =

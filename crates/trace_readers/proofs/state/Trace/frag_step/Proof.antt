@@ -31,13 +31,20 @@ incoherent-requires : tie.Need-incoherent-requires
 incoherent-requires c κs = search needs
 
 returns : tie.Need-returns
-returns c = frag-large (c .before .before .before .before .before .args .id) (c .before .before .before .before .before .args .seq) (c .before .before .before .before .before .args .numbers .now) (c .before .before .before .before .before .args .self) (c .before .before .before .before .before .args .large .now) (c .before .before .before .before .before .args .small .now) (c .incoherent .result) (c .before .if1 .taken) (c .incoherent .ensures)
+returns c =
+    let args = c .before .before .before .before .before .args in
+    let if1 = c .before .if1 in
+    frag-large (args .id) (args .seq) (args .numbers .now) (args .self) (args .large .now) (args .small .now) (c .incoherent .result) (if1 .taken) (c .incoherent .ensures)
 
 incoherent-requires-2 : tie.Need-incoherent-requires-2
 incoherent-requires-2 c κs = search needs
 
 returns-2 : tie.Need-returns-2
-returns-2 c = frag-small (c .before .before .before .before .before .before .args .id) (c .before .before .before .before .before .before .args .seq) (c .before .before .before .before .before .before .args .numbers .now) (c .before .before .before .before .before .before .args .self) (c .before .before .before .before .before .before .args .large .now) (c .before .before .before .before .before .before .args .small .now) (c .incoherent2 .result) (c .before .before .if1 .left) (c .before .if2 .taken) (c .incoherent2 .ensures)
+returns-2 c =
+    let args = c .before .before .before .before .before .before .args in
+    let if1 = c .before .before .if1 in
+    let if2 = c .before .if2 in
+    frag-small (args .id) (args .seq) (args .numbers .now) (args .self) (args .large .now) (args .small .now) (c .incoherent2 .result) (if1 .left) (if2 .taken) (c .incoherent2 .ensures)
 
 from-rank-requires : tie.Need-from-rank-requires
 from-rank-requires c κs = search needs
@@ -97,7 +104,20 @@ same-length-2 : tie.Need-same-length-2
 same-length-2 c = search needs
 
 returns-3 : tie.Need-returns-3
-returns-3 c = frag-line (c .before .before .before .before .before .before .before .before .before .before .before .before .before .before .before .before .before .before .before .before .args .id) (c .before .before .before .before .before .before .before .before .before .before .before .before .before .before .before .before .before .before .before .before .args .seq) (c .before .before .before .before .before .before .before .before .before .before .before .before .before .before .before .before .before .before .before .before .args .numbers .now) (c .before .before .before .before .before .before .before .before .before .before .before .before .before .before .before .before .before .before .before .before .args .self) (c .before .before .before .before .before .before .before .before .before .before .before .before .before .before .before .before .before .before .before .before .args .large .now) (c .before .before .before .before .before .before .before .before .before .before .before .before .before .before .before .before .before .before .before .before .args .small .now) (c .before .before .before .before .before .before .before .before .before .before .before .before .before .before .before .before .if1 .left) (c .before .before .before .before .before .before .before .before .before .before .before .before .before .before .before .if2 .left) (c .before .before .before .before .before .before .before .before .before .before .before .before .before .before .from-rank .result) (c .before .before .before .before .before .before .before .before .before .before .before .before .before .before .from-rank .ensures) (c .before .before .before .before .before .before .before .before .before .before .before .before .before .pieces .result) (c .before .before .before .before .before .before .before .before .before .before .before .before .before .pieces .ensures) (c .before .before .before .before .before .before .before .before .before .before .before .lookup-in-2 .result) (c .before .before .before .before .before .before .before .before .before .before .before .lookup-in-2 .ensures) (c .before .before .before .before .before .before .before .before .before .is-first .result) (c .before .before .before .before .before .before .before .before .before .is-first .ensures) (c .before .before .before .before .before .before .before .before .samples-at .result) (c .before .before .before .before .before .before .before .words-at .result) (c .before .before .before .before .before .before .before .before .samples-at .ensures .0) (c .before .before .before .before .before .before .before .words-at .ensures .0) (c .before .before .before .before .asked-of .result) (c .before .before .before .before .asked-of .last .1 .1 .1 .1 .1 .0) (c .before .before .before .before .asked-of .last .1 .1 .1 .1 .1 .1 .0) (c .before .before .before .before .asked-of .ensures)
+returns-3 c =
+    let args = c .before .before .before .before .before .before .before .before .before .before .before .before .before .before .before .before .before .before .before .before .args in
+    let if1 = c .before .before .before .before .before .before .before .before .before .before .before .before .before .before .before .before .if1 in
+    let if2 = c .before .before .before .before .before .before .before .before .before .before .before .before .before .before .before .if2 in
+    let from-rank = c .before .before .before .before .before .before .before .before .before .before .before .before .before .before .from-rank in
+    let pieces = c .before .before .before .before .before .before .before .before .before .before .before .before .before .pieces in
+    let lookup-in-2 = c .before .before .before .before .before .before .before .before .before .before .before .lookup-in-2 in
+    let is-first = c .before .before .before .before .before .before .before .before .before .is-first in
+    let samples-at = c .before .before .before .before .before .before .before .before .samples-at in
+    let words-at = c .before .before .before .before .before .before .before .words-at in
+    let asked-of = c .before .before .before .before .asked-of in
+    frag-line (args .id) (args .seq) (args .numbers .now) (args .self) (args .large .now) (args .small .now) (if1 .left) (if2 .left) (from-rank .result) (from-rank .ensures) (pieces .result) (pieces .ensures)
+    (lookup-in-2 .result) (lookup-in-2 .ensures) (is-first .result) (is-first .ensures) (samples-at .result) (words-at .result) (samples-at .ensures .0) (words-at .ensures .0) (asked-of .result)
+    (asked-of .last .1 .1 .1 .1 .1 .0) (asked-of .last .1 .1 .1 .1 .1 .1 .0) (asked-of .ensures)
 
 pub frag-step-spec : {M : Type 1} → statement M
 frag-step-spec =

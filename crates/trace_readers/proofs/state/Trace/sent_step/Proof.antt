@@ -62,7 +62,16 @@ same-length : tie.Need-same-length
 same-length c = search needs
 
 returns-2 : tie.Need-returns-2
-returns-2 c = sent-line (c .before .before .before .before .before .before .before .before .before .before .before .before .args .id) (c .before .before .before .before .before .before .before .before .before .before .before .before .args .seq) (c .before .before .before .before .before .before .before .before .before .before .before .before .args .self) (c .before .before .before .before .before .before .before .before .before .before .before .before .args .large .now) (c .before .before .before .before .before .before .before .before .before .before .if1 .left) (c .before .before .before .before .before .before .before .before .before .from-rank .result) (c .before .before .before .before .before .before .before .before .before .from-rank .ensures) (c .before .before .before .before .before .before .before .lookup-in-2 .result) (c .before .before .before .before .before .before .before .lookup-in-2 .ensures) (c .before .before .before .before .before .is-first .result) (c .before .before .before .before .before .is-first .ensures) (c .before .before .before .before .unsent-at .result) (c .before .before .before .before .unsent-at .ensures .0) (c .before .before .sent-to .result) (c .before .before .sent-to .last .1 .1 .1 .1 .0) (c .before .before .sent-to .ensures)
+returns-2 c =
+    let args = c .before .before .before .before .before .before .before .before .before .before .before .before .args in
+    let if1 = c .before .before .before .before .before .before .before .before .before .before .if1 in
+    let from-rank = c .before .before .before .before .before .before .before .before .before .from-rank in
+    let lookup-in-2 = c .before .before .before .before .before .before .before .lookup-in-2 in
+    let is-first = c .before .before .before .before .before .is-first in
+    let unsent-at = c .before .before .before .before .unsent-at in
+    let sent-to = c .before .before .sent-to in
+    sent-line (args .id) (args .seq) (args .self) (args .large .now) (if1 .left) (from-rank .result) (from-rank .ensures) (lookup-in-2 .result) (lookup-in-2 .ensures) (is-first .result) (is-first .ensures)
+    (unsent-at .result) (unsent-at .ensures .0) (sent-to .result) (sent-to .last .1 .1 .1 .1 .0) (sent-to .ensures)
 
 pub sent-step-spec : {M : Type 1} → statement M
 sent-step-spec =

@@ -50,7 +50,18 @@ same-length : tie.Need-same-length
 same-length c = search needs
 
 returns : tie.Need-returns
-returns c = sent-refused (c .before .before .before .before .before .before .before .before .before .before .before .before .before .args .first) (c .before .before .before .before .before .before .before .before .before .before .before .before .before .args .looked) (c .before .before .before .before .before .before .before .before .before .before .before .before .before .args .n) (c .before .before .before .before .before .before .before .before .before .before .before .before .before .args .self) (c .before .before .before .before .before .before .before .before .before .before .before .before .before .args .unsent .now) (c .before .before .before .earlier2 .result) (sent-asked (c .before .before .before .before .before .before .before .before .before .before .before .before .before .args .first) (c .before .before .before .before .before .before .before .before .before .before .before .before .before .args .looked) (c .before .before .before .before .before .before .before .before .before .before .before .before .before .args .n) (c .before .before .before .before .before .before .before .before .before .before .before .before .before .args .self) (c .before .before .before .before .before .before .before .before .before .before .before .before .before .args .unsent .now) (c .before .before .before .before .before .before .before .before .before .before .before .reader .result) (c .before .before .before .before .before .before .before .before .before .before .before .reader .ensures) (c .before .before .before .before .before .before .before .before .before .unsent-ok .result) (c .before .before .before .before .before .before .before .before .before .unsent-ok .ensures) (c .before .before .before .before .before .before .before .before .coherence .result) (c .before .before .before .before .before .before .before .before .coherence .ensures) (c .before .before .before .before .before .before .with-sent-frontier .result) (c .before .before .before .before .before .before .with-sent-frontier .ensures) (c .before .before .before .before .earlier .result) (c .before .before .before .before .earlier .ensures) (c .before .before .before .earlier2 .result) (c .before .before .before .earlier2 .ensures)) (c .before .if1 .taken) (c .refused .result) (c .refused .ensures)
+returns c =
+    let args = c .before .before .before .before .before .before .before .before .before .before .before .before .before .args in
+    let reader = c .before .before .before .before .before .before .before .before .before .before .before .reader in
+    let unsent-ok = c .before .before .before .before .before .before .before .before .before .unsent-ok in
+    let coherence = c .before .before .before .before .before .before .before .before .coherence in
+    let with-sent-frontier = c .before .before .before .before .before .before .with-sent-frontier in
+    let earlier = c .before .before .before .before .earlier in
+    let earlier2 = c .before .before .before .earlier2 in
+    let if1 = c .before .if1 in
+    sent-refused (args .first) (args .looked) (args .n) (args .self) (args .unsent .now) (earlier2 .result)
+    (sent-asked (args .first) (args .looked) (args .n) (args .self) (args .unsent .now) (reader .result) (reader .ensures) (unsent-ok .result) (unsent-ok .ensures) (coherence .result) (coherence .ensures)
+    (with-sent-frontier .result) (with-sent-frontier .ensures) (earlier .result) (earlier .ensures) (earlier2 .result) (earlier2 .ensures)) (if1 .taken) (c .refused .result) (c .refused .ensures)
 
 mark-change-sent-requires : tie.Need-mark-change-sent-requires
 mark-change-sent-requires c κs = search needs
@@ -65,7 +76,21 @@ same-length-2 : tie.Need-same-length-2
 same-length-2 c = search needs
 
 returns-2 : tie.Need-returns-2
-returns-2 c = sent-done (c .before .before .before .before .before .before .before .before .before .before .before .before .before .before .before .before .before .before .before .args .first) (c .before .before .before .before .before .before .before .before .before .before .before .before .before .before .before .before .before .before .before .args .looked) (c .before .before .before .before .before .before .before .before .before .before .before .before .before .before .before .before .before .before .before .args .n) (c .before .before .before .before .before .before .before .before .before .before .before .before .before .before .before .before .before .before .before .args .self) (c .before .before .before .before .before .before .before .before .before .before .before .before .before .before .before .before .before .before .before .args .unsent .now) (c .before .before .before .before .before .before .before .before .before .earlier2 .result) (sent-asked (c .before .before .before .before .before .before .before .before .before .before .before .before .before .before .before .before .before .before .before .args .first) (c .before .before .before .before .before .before .before .before .before .before .before .before .before .before .before .before .before .before .before .args .looked) (c .before .before .before .before .before .before .before .before .before .before .before .before .before .before .before .before .before .before .before .args .n) (c .before .before .before .before .before .before .before .before .before .before .before .before .before .before .before .before .before .before .before .args .self) (c .before .before .before .before .before .before .before .before .before .before .before .before .before .before .before .before .before .before .before .args .unsent .now) (c .before .before .before .before .before .before .before .before .before .before .before .before .before .before .before .before .before .reader .result) (c .before .before .before .before .before .before .before .before .before .before .before .before .before .before .before .before .before .reader .ensures) (c .before .before .before .before .before .before .before .before .before .before .before .before .before .before .before .unsent-ok .result) (c .before .before .before .before .before .before .before .before .before .before .before .before .before .before .before .unsent-ok .ensures) (c .before .before .before .before .before .before .before .before .before .before .before .before .before .before .coherence .result) (c .before .before .before .before .before .before .before .before .before .before .before .before .before .before .coherence .ensures) (c .before .before .before .before .before .before .before .before .before .before .before .before .with-sent-frontier .result) (c .before .before .before .before .before .before .before .before .before .before .before .before .with-sent-frontier .ensures) (c .before .before .before .before .before .before .before .before .before .before .earlier .result) (c .before .before .before .before .before .before .before .before .before .before .earlier .ensures) (c .before .before .before .before .before .before .before .before .before .earlier2 .result) (c .before .before .before .before .before .before .before .before .before .earlier2 .ensures)) (c .before .before .before .before .before .before .before .if1 .left) (c .before .before .before .before .before .before .before .before .before .before .before .before .before .before .before .before .before .reader .result) (c .before .before .before .before .before .before .before .before .before .before .before .before .before .before .before .before .before .reader .ensures) (c .before .before .before .before .before .mark-change-sent .result) (c .before .before .before .before .before .mark-change-sent .last .1 .0) (c .before .before .before .before .before .mark-change-sent .ensures) (c .before .before .before .before .before .before .before .before .before .before .before .before .with-sent-frontier .result) (c .before .before .before .before .before .before .before .before .before .before .before .before .with-sent-frontier .ensures) (c .before .with-flow .result) (c .before .with-flow .ensures) (c .with-reader .result) (c .with-reader .ensures)
+returns-2 c =
+    let args = c .before .before .before .before .before .before .before .before .before .before .before .before .before .before .before .before .before .before .before .args in
+    let reader = c .before .before .before .before .before .before .before .before .before .before .before .before .before .before .before .before .before .reader in
+    let unsent-ok = c .before .before .before .before .before .before .before .before .before .before .before .before .before .before .before .unsent-ok in
+    let coherence = c .before .before .before .before .before .before .before .before .before .before .before .before .before .before .coherence in
+    let with-sent-frontier = c .before .before .before .before .before .before .before .before .before .before .before .before .with-sent-frontier in
+    let earlier = c .before .before .before .before .before .before .before .before .before .before .earlier in
+    let earlier2 = c .before .before .before .before .before .before .before .before .before .earlier2 in
+    let if1 = c .before .before .before .before .before .before .before .if1 in
+    let mark-change-sent = c .before .before .before .before .before .mark-change-sent in
+    let with-flow = c .before .with-flow in
+    sent-done (args .first) (args .looked) (args .n) (args .self) (args .unsent .now) (earlier2 .result)
+    (sent-asked (args .first) (args .looked) (args .n) (args .self) (args .unsent .now) (reader .result) (reader .ensures) (unsent-ok .result) (unsent-ok .ensures) (coherence .result) (coherence .ensures)
+    (with-sent-frontier .result) (with-sent-frontier .ensures) (earlier .result) (earlier .ensures) (earlier2 .result) (earlier2 .ensures)) (if1 .left) (reader .result) (reader .ensures) (mark-change-sent .result)
+    (mark-change-sent .last .1 .0) (mark-change-sent .ensures) (with-sent-frontier .result) (with-sent-frontier .ensures) (with-flow .result) (with-flow .ensures) (c .with-reader .result) (c .with-reader .ensures)
 
 pub sent-to-spec : {M : Type 1} → statement M
 sent-to-spec =
