@@ -1,11 +1,29 @@
 // An answer in words, for people.
-use trace_run::Followed;
+use trace_readers::Followed;
 use trace_text::answer::put_byte;
 use trace_text::answer::put_number;
 use trace_text::answer::put_text;
 
-// What a number from 8 on means.
-fn put_later_meaning(out: &mut [u8], at: usize, number: u32) -> usize {
+// What a number returned means, from 12 on.
+fn put_last_meaning(out: &mut [u8], at: usize, number: u32) -> usize {
+    match number {
+        12 => put_text(
+            out,
+            at,
+            b"ignored: the acknowledgement is ahead of what was written",
+        ),
+        13 => put_text(out, at, b"refused: a capacity or limit isn't allowed"),
+        14 => put_text(out, at, b"refused: there is nothing there"),
+        _ => put_text(
+            out,
+            at,
+            b"refused: the line isn't understood, or can't come here",
+        ),
+    }
+}
+
+// From 8 on.
+fn put_list_meaning(out: &mut [u8], at: usize, number: u32) -> usize {
     match number {
         8 => put_text(
             out,
@@ -23,28 +41,13 @@ fn put_later_meaning(out: &mut [u8], at: usize, number: u32) -> usize {
             at,
             b"refused: the reader id is 0, unknown, or already there",
         ),
-        12 => put_text(
-            out,
-            at,
-            b"ignored: the acknowledgement is ahead of what was written",
-        ),
-        13 => put_text(out, at, b"refused: a capacity or limit isn't allowed"),
-        14 => put_text(out, at, b"refused: there is nothing there"),
-        _ => put_text(
-            out,
-            at,
-            b"refused: the line isn't understood, or can't come here",
-        ),
+        _ => put_last_meaning(out, at, number),
     }
 }
 
-// What a number returned means.
-fn put_meaning(out: &mut [u8], at: usize, number: u32) -> usize {
+// From 4 on.
+fn put_write_meaning(out: &mut [u8], at: usize, number: u32) -> usize {
     match number {
-        0 => put_text(out, at, b"done"),
-        1 => put_text(out, at, b"refused: a record or buffer isn't coherent"),
-        2 => put_text(out, at, b"refused: a number is out of its range"),
-        3 => put_text(out, at, b"refused: the set spans more than 256 numbers"),
         4 => put_text(
             out,
             at,
@@ -57,7 +60,17 @@ fn put_meaning(out: &mut [u8], at: usize, number: u32) -> usize {
             b"refused: the write would block, since the window or the backlog is full",
         ),
         7 => put_text(out, at, b"refused: the store is full"),
-        _ => put_later_meaning(out, at, number),
+        _ => put_list_meaning(out, at, number),
+    }
+}
+
+fn put_meaning(out: &mut [u8], at: usize, number: u32) -> usize {
+    match number {
+        0 => put_text(out, at, b"done"),
+        1 => put_text(out, at, b"refused: a record or buffer isn't coherent"),
+        2 => put_text(out, at, b"refused: a number is out of its range"),
+        3 => put_text(out, at, b"refused: the set spans more than 256 numbers"),
+        _ => put_write_meaning(out, at, number),
     }
 }
 

@@ -10,233 +10,187 @@ use libc::STDERR_FILENO;
 use libc::STDIN_FILENO;
 use libc::STDOUT_FILENO;
 use numbers::arith::smaller;
-use trace_answers::follow_held;
-use trace_answers::put_followed;
-use trace_run::Followed;
-use trace_run::Trace;
-use trace_text::take_line;
+use trace_answers::Answering;
 
-// What goes on from line to line: the trace, how many bytes of the line have come, the lines answered, and how much output waits.
+// What goes on from turn to turn: how the answering stands, how many bytes the piece has, whether there may be more to read, and whether the
+// answers couldn't be written.
 struct Run {
-    trace: Trace,
-    held: usize,
-    lines: u64,
-    waiting: usize,
-    explain: bool,
+    answering: Answering,
+    bytes: usize,
+    reading: bool,
     failed: bool,
 }
 
-// A run, and whether there is more to read.
-struct Turn {
-    more: bool,
-    run: Run,
+// How many bytes the next piece has, and whether there may be more to read.
+struct Filled {
+    bytes: usize,
+    reading: bool,
 }
 
-// One more, as long as that is a number.
-fn next(n: u64) -> u64 {
-    if n < 18446744073709551615 {
-        return n + 1;
+fn read_piece(reading: bool, piece: &mut [u8]) -> usize {
+    if !reading {
+        return 0;
     }
-    n
+    let got = libc::read(STDIN_FILENO, piece);
+    if got < 0 {
+        os::fail(b"trace: standard input");
+    }
+    io::count(got, piece)
+}
+
+// The input's end ends a line that has begun.
+fn end_line(open: bool, piece: &mut [u8]) -> usize {
+    if open {
+        if 0 < piece.len() {
+            piece[0] = 10;
+            return 1;
+        }
+    }
+    0
+}
+
+fn next_piece(reading: bool, open: bool, piece: &mut [u8]) -> Filled {
+    let bytes = read_piece(reading, piece);
+    if 0 < bytes {
+        return Filled {
+            bytes,
+            reading: true,
+        };
+    }
+    Filled {
+        bytes: end_line(open, piece),
+        reading: false,
+    }
+}
+
+fn write_out(out: &[u8], filled: usize) -> bool {
+    let start = 0;
+    let n = smaller(filled, out.len());
+    io::write_all(STDOUT_FILENO, &out[start..n])
+}
+
+// The place after the next newline, or the end: in words, one line is answered at a time.
+fn line_end(piece: &[u8], from: usize) -> usize {
+    let mut i = from;
+    while i < piece.len() {
+        if piece[i] == 10 {
+            return i + 1;
+        }
+        i += 1;
+    }
+    piece.len()
+}
+
+// How far the piece goes that is to be answered.
+fn reach(explain: bool, piece: &[u8], from: usize, bytes: usize) -> usize
+    ensures { λ r. ⌜ r ≤ length (now (piece .entry)) ⌝ }
+{
+    let n = smaller(bytes, piece.len());
+    if !explain {
+        return n;
+    }
+    smaller(line_end(piece, from), n)
+}
+
+// With --explain, the line's answer in words in place of its figures; how far the output then goes.
+fn in_words(explain: bool, a: Answering, line: &[u8], out: &mut [u8]) -> usize {
+    let filled = a.filled;
+    if !explain | (filled == 0) {
+        return filled;
+    }
+    let cut = a.cut;
+    let start = 0;
+    let shown = smaller(cut.held, line.len());
+    let too_long = line.len() < cut.held;
+    put_explained(out, 0, a.lines, &line[start..shown], too_long, a.followed)
 }
 
 impl Run {
-    // What waits is written.
-    fn flushed(self, out: &[u8]) -> Run {
-        let start = 0;
-        let n = smaller(self.waiting, out.len());
-        let ok = io::write_all(STDOUT_FILENO, &out[start..n]);
-        let trace = self.trace;
-        Run {
-            trace,
-            held: self.held,
-            lines: self.lines,
-            waiting: 0,
-            explain: self.explain,
-            failed: self.failed | !ok,
-        }
-    }
-
-    // Room for one more answer.
-    fn with_room(self, out: &[u8]) -> Run {
-        let n = self.waiting;
-        if n < out.len() {
-            if 2048 <= out.len() - n {
-                return self;
-            }
-        }
-        self.flushed(out)
-    }
-
-    // The answer, in figures or in words.
-    fn put_one(self, followed: Followed, out: &mut [u8], lines: u64, line: &[u8]) -> usize {
-        let at = self.waiting;
-        if self.explain {
-            let too_long = line.len() < self.held;
-            return put_explained(out, at, lines, line, too_long, followed);
-        }
-        put_followed(out, at, lines, followed)
-    }
-
-    fn after(self, followed: Followed, out: &mut [u8], line: &[u8]) -> Run {
-        let lines = next(self.lines);
-        let waiting = self.put_one(followed, out, lines, line);
-        let trace = followed.trace;
-        Run {
-            trace,
-            held: 0,
-            lines,
-            waiting,
-            explain: self.explain,
-            failed: self.failed,
-        }
-    }
-
-    // A line has ended: it is followed, and its answer joins the output that waits.
-    fn answered(
-        self,
-        line: &[u8],
-        out: &mut [u8],
-        store: &mut [u8],
-        large: &mut [u64],
-        small: &mut [u64],
-    ) -> Run {
-        let r = self.with_room(out);
-        let trace = r.trace;
-        let start = 0;
-        let held = r.held;
-        let followed = follow_held(trace, line, held, store, large, small);
-        let shown = smaller(held, line.len());
-        r.after(followed, out, &line[start..shown])
-    }
-
-    fn cut(self, held: usize) -> Run {
-        let trace = self.trace;
-        Run {
-            trace,
-            held,
-            lines: self.lines,
-            waiting: self.waiting,
-            explain: self.explain,
-            failed: self.failed,
-        }
-    }
-
-    // A piece of the input, wherever lines end in it.
-    fn with_piece(
-        self,
-        piece: &[u8],
-        line: &mut [u8],
-        out: &mut [u8],
-        store: &mut [u8],
-        large: &mut [u64],
-        small: &mut [u64],
-    ) -> Run {
-        let mut r = self;
-        let mut i = 0;
-        while i < piece.len() {
-            let c = take_line(piece, i, line, r.held);
-            i = c.at;
-            r = r.cut(c.held);
-            if c.ended {
-                r = r.answered(line, out, store, large, small);
-            }
-        }
-        r
-    }
-
-    // The input has ended: a last line without a newline counts.
-    fn ended(
-        self,
-        line: &[u8],
-        out: &mut [u8],
-        store: &mut [u8],
-        large: &mut [u64],
-        small: &mut [u64],
-    ) -> Run {
-        if self.held == 0 {
+    // Where all of the piece is answered, the next one is read.
+    fn refilled(self, piece: &mut [u8]) -> Run {
+        let a = self.answering;
+        let cut = a.cut;
+        if (cut.at < self.bytes) | self.failed {
             return self;
         }
-        self.answered(line, out, store, large, small)
+        let next = next_piece(self.reading, a.is_open(), piece);
+        let answering = a.at_next_piece();
+        Run {
+            answering,
+            bytes: next.bytes,
+            reading: next.reading,
+            failed: false,
+        }
     }
 
-    fn read_some(
-        self,
-        line: &mut [u8],
-        out: &mut [u8],
-        store: &mut [u8],
-        large: &mut [u64],
-        small: &mut [u64],
-    ) -> Turn {
-        let mut buf = io::large_buffer();
-        let got = libc::read(STDIN_FILENO, &mut buf);
-        if got <= 0 {
-            if got < 0 {
-                os::fail(b"trace: standard input");
-            }
-            return Turn {
-                more: false,
-                run: self,
-            };
-        }
-        let n = io::count(got, &buf);
-        let run = self.with_piece(&buf[..n], line, out, store, large, small);
-        Turn {
-            more: !run.failed,
-            run,
+    // What was put is written.
+    fn after(self, explain: bool, a: Answering, line: &[u8], out: &mut [u8]) -> Run {
+        let filled = in_words(explain, a, line, out);
+        let ok = write_out(out, filled);
+        let answering = a.with_nothing_waiting();
+        Run {
+            answering,
+            bytes: if ok { self.bytes } else { 0 },
+            reading: self.reading,
+            failed: !ok,
         }
     }
 }
 
-// To the end of the input. (The count of turns ends it after 2 ^ 64 reads.)
+// To the end of the input. (The count of turns ends it after 2 ^ 64 turns.)
 fn to_the_end(
     explain: bool,
+    piece: &mut [u8],
     line: &mut [u8],
     out: &mut [u8],
     store: &mut [u8],
     large: &mut [u64],
     small: &mut [u64],
-) {
-    let trace = Trace::start();
+) -> bool {
+    let answering = Answering::start();
     let mut r = Run {
-        trace,
-        held: 0,
-        lines: 0,
-        waiting: 0,
-        explain,
+        answering,
+        bytes: 0,
+        reading: true,
         failed: false,
     };
+    let start = 0;
     let mut turns: u64 = 18446744073709551615;
     while 0 < turns {
-        let t = r.read_some(line, out, store, large, small);
-        r = t.run;
-        if t.more {
-            turns -= 1;
-        } else {
+        r = r.refilled(piece);
+        let now = r.answering;
+        let cut = now.cut;
+        let n = reach(explain, piece, cut.at, r.bytes);
+        let a = now.answer_piece(&piece[start..n], line, out, store, large, small);
+        r = r.after(explain, a, line, out);
+        if r.bytes == 0 {
             turns = 0;
+        } else {
+            turns -= 1;
         }
     }
-    r = r.ended(line, out, store, large, small);
-    r = r.flushed(out);
-    if r.failed {
-        io::write_all(STDERR_FILENO, b"trace: can't write the answers\n");
-    }
+    r.failed
 }
 
 fn start(explain: bool) {
+    let mut piece = io::large_buffer();
     let mut line = [0u8; 512];
     let mut out = io::large_buffer();
     let mut store = [0u8; 4096];
     let mut large = [0u64; 4352];
     let mut small = [0u64; 544];
-    to_the_end(
+    let failed = to_the_end(
         explain,
+        &mut piece,
         &mut line,
         &mut out,
         &mut store,
         &mut large,
         &mut small,
     );
+    if failed {
+        io::write_all(STDERR_FILENO, b"trace: can't write the answers\n");
+    }
 }
 
 // Whether the bytes are the same.

@@ -14,9 +14,9 @@ use Rattle.writer_send_buffer.specs.declared.flow.Moved.{Moved}
 use Rattle.writer_send_buffer.specs.Buffer.{newOf}
 use Rattle.trace_lines.specs.Lines.{Said, op-new, op-match, op-write, op-ack, op-sent, op-frag, op-evict, unknown, said}
 use Rattle.trace_text.specs.Answers.{answerText}
-use Rattle.trace_run.specs.declared.state.Trace.{Trace}
-use Rattle.trace_run.specs.declared.state.Followed.{Followed}
-use Rattle.trace_run.specs.State.{begun, refusedBy, notUnderstood, withFlow}
+use Rattle.trace_readers.specs.declared.state.Trace.{Trace}
+use Rattle.trace_readers.specs.declared.state.Followed.{Followed}
+use Rattle.trace_readers.specs.State.{begun, refusedBy, notUnderstood, withFlow}
 use Rattle.trace_run.specs.Writer.{kindOf, limitsOf}
 use Rattle.trace_run.specs.Follow.{noRoom, firstLine, laterLine, followOf}
 use Rattle.trace_answers.specs.Shown.{followHeld, shownText}

@@ -8,9 +8,9 @@ use borrow.Author.Tests.{lt-ltb, le-ltb}
 use Rattle.numbers.specs.Number.{rankOf}
 use Rattle.numbers.specs.Promise.{Gives1, Gives3}
 use Rattle.trace_text.specs.Answers.{putOf, answerText}
-use Rattle.trace_run.specs.declared.state.Trace.{Trace}
-use Rattle.trace_run.specs.declared.state.Followed.{Followed}
-use Rattle.trace_run.specs.State.{refusedBy, notUnderstood}
+use Rattle.trace_readers.specs.declared.state.Trace.{Trace}
+use Rattle.trace_readers.specs.declared.state.Followed.{Followed}
+use Rattle.trace_readers.specs.State.{refusedBy, notUnderstood}
 use Rattle.trace_run.specs.Follow.{followOf}
 use Rattle.trace_answers.specs.Shown.{followHeld, shownText}
 

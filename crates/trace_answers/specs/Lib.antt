@@ -1,2 +1,4 @@
 -- The definitions of `trace_answers`.
 pub mod Shown
+pub mod Input
+pub mod Text

@@ -7,9 +7,9 @@ use lib.ListN.{length, take}
 use Rattle.numbers.specs.Number.{rankOf}
 use Rattle.numbers.specs.Promise.{Left3}
 use Rattle.trace_text.specs.Answers.{answerText}
-use Rattle.trace_run.specs.declared.state.Trace.{Trace}
-use Rattle.trace_run.specs.declared.state.Followed.{Followed}
-use Rattle.trace_run.specs.State.{refusedBy, notUnderstood}
+use Rattle.trace_readers.specs.declared.state.Trace.{Trace}
+use Rattle.trace_readers.specs.declared.state.Followed.{Followed}
+use Rattle.trace_readers.specs.State.{refusedBy, notUnderstood}
 use Rattle.trace_run.specs.Follow.{noRoom, followOf}
 
 -- "Lines of at most 512 bytes": one of which more bytes came than its room has isn't understood

@@ -3,8 +3,13 @@ ghost use mathlib.Core.Path.{_≡_};
 ghost use Rattle.numbers.specs.Promise.{Gives1, Gives3};
 ghost use Rattle.trace_text.specs.Answers.{putOf};
 ghost use Rattle.trace_answers.specs.Shown.{followHeld, shownText};
-use trace_run::Followed;
-use trace_run::Trace;
+
+pub mod input;
+
+pub use input::Answering;
+use trace_readers::Followed;
+use trace_readers::Trace;
+use trace_run::follow::follow;
 use trace_text::put_answer;
 
 // A line of which `held` bytes have come. More than its room has: it is too long, and isn't understood.
@@ -22,7 +27,7 @@ pub fn follow_held(
     if line.len() < held {
         return trace.not_understood();
     }
-    trace.follow(&line[start..held], store, large, small)
+    follow(trace, &line[start..held], store, large, small)
 }
 
 // The answer to the line of this number, with the writer's figures after it.

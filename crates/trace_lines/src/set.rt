@@ -26,6 +26,10 @@ pub fn clear(room: &mut [u64])
 fn numbers_in(s: &[u8], at: usize, least: u64, room: &mut [u64]) -> Listed
     ensures { λ r. ⌜ Listing (listedIn (length (now (room .entry))) least (drop at (now (s .entry)))) (length (now (room .entry))) r (now (room .exit)) ⌝ }
 {
+    let unlisted = Listed {
+        count: 0,
+        ok: false,
+    };
     let mut i = at;
     let mut m = least;
     let mut n = 0;
@@ -36,16 +40,10 @@ fn numbers_in(s: &[u8], at: usize, least: u64, room: &mut [u64]) -> Listed
         let next = d.next;
         let j = next.at;
         if !next.ok {
-            return Listed {
-                count: 0,
-                ok: false,
-            };
+            return unlisted;
         }
         if v < m {
-            return Listed {
-                count: 0,
-                ok: false,
-            };
+            return unlisted;
         }
         room[n] = v;
         n += 1;
@@ -53,18 +51,12 @@ fn numbers_in(s: &[u8], at: usize, least: u64, room: &mut [u64]) -> Listed
             return Listed { count: n, ok: true };
         }
         if s[j] != 44 {
-            return Listed {
-                count: 0,
-                ok: false,
-            };
+            return unlisted;
         }
         i = j + 1;
         m = v + 1;
     }
-    Listed {
-        count: 0,
-        ok: false,
-    }
+    unlisted
 }
 
 impl Place {

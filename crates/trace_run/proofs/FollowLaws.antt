@@ -16,11 +16,11 @@ use Rattle.trace_lines.specs.declared.command.Command.the-variants.{New, Match,
 use Rattle.trace_lines.proofs.command.Command.{the-type}
 use Rattle.trace_lines.specs.Sets.{filled}
 use Rattle.trace_lines.specs.Lines.{Said, op-new, op-match, op-write, op-ack, op-sent, op-frag, op-evict, unknown, said, commandOf, numbersIn, answered}
-use Rattle.trace_run.specs.declared.state.Trace.{Trace}
-use Rattle.trace_run.specs.declared.state.Followed.{Followed}
-use Rattle.trace_run.specs.State.{refusedBy, notUnderstood}
-use Rattle.trace_run.specs.Requests.{ackLine}
-use Rattle.trace_run.specs.Fragments.{fragLine}
+use Rattle.trace_readers.specs.declared.state.Trace.{Trace}
+use Rattle.trace_readers.specs.declared.state.Followed.{Followed}
+use Rattle.trace_readers.specs.State.{refusedBy, notUnderstood}
+use Rattle.trace_readers.specs.Requests.{ackLine}
+use Rattle.trace_readers.specs.Fragments.{fragLine}
 use Rattle.trace_run.specs.Follow.{noRoom, inBoth, firstLine, laterLine, followedBy, counted, firstBy, laterBy}
 
 -- the arms that the code has no fields of

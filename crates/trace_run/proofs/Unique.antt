@@ -4,8 +4,8 @@ use mathlib.Core.Path.{_≡_}
 use mathlib.Core.List.{List}
 use Rattle.numbers.specs.Promise.{Gives3}
 use Rattle.numbers.proofs.One.{one3}
-use Rattle.trace_run.specs.declared.state.Trace.{Trace}
-use Rattle.trace_run.specs.declared.state.Followed.{Followed}
+use Rattle.trace_readers.specs.declared.state.Trace.{Trace}
+use Rattle.trace_readers.specs.declared.state.Followed.{Followed}
 use Rattle.trace_run.specs.Follow.{followOf}
 
 module _ (line : List ℕ) (t : Trace) (store large small : List ℕ) (r s : Followed) (u v w x y z : List ℕ) where

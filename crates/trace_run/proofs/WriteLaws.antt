@@ -17,10 +17,10 @@ use Rattle.reader_list.specs.Slots.{freeSlot}
 use Rattle.writer_send_buffer.specs.declared.flow.WriterSendBuffer.{WriterSendBuffer}
 use Rattle.writer_send_buffer.specs.declared.samples.Admitted.{Admitted}
 use Rattle.writer_send_buffer.specs.Samples.{admitOf, handed}
-use Rattle.trace_run.specs.declared.state.Trace.{Trace}
-use Rattle.trace_run.specs.declared.state.Followed.{Followed}
-use Rattle.trace_run.specs.State.{refusedBy, incoherent, ownAnswer, withFlow}
-use Rattle.trace_run.specs.Rooms.{part, put}
+use Rattle.trace_readers.specs.declared.state.Trace.{Trace}
+use Rattle.trace_readers.specs.declared.state.Followed.{Followed}
+use Rattle.trace_readers.specs.State.{refusedBy, incoherent, ownAnswer, withFlow}
+use Rattle.trace_readers.specs.Rooms.{part, put}
 use Rattle.trace_run.specs.Writes.{toldTo, toldOne, toldTwo, afterOne, toldBoth, bothOk, slotsIn, admitIn, admitPut, toldAfter, writtenBy, writtenOf, payloadOf, writeLine}
 
 -- one reader

@@ -7,13 +7,13 @@ use Rattle.numbers.specs.Promise.{Left1, Left2, Left3}
 use Rattle.trace_lines.specs.declared.command.Command.{Command}
 use Rattle.trace_lines.specs.declared.command.Command.the-variants.{New, Match, Write, Ack, Sent, Frag, Evict, Unknown}
 use Rattle.trace_lines.specs.Lines.{Said, op-new, op-match, op-write, op-ack, op-sent, op-frag, op-evict, unknown, said}
-use Rattle.trace_run.specs.declared.state.Trace.{Trace}
-use Rattle.trace_run.specs.declared.state.Followed.{Followed}
-use Rattle.trace_run.specs.State.{refusedBy, notUnderstood}
+use Rattle.trace_readers.specs.declared.state.Trace.{Trace}
+use Rattle.trace_readers.specs.declared.state.Followed.{Followed}
+use Rattle.trace_readers.specs.State.{refusedBy, notUnderstood}
 use Rattle.trace_run.specs.Writer.{newStep, matchedStep, evictStep}
 use Rattle.trace_run.specs.Writes.{writeLine}
-use Rattle.trace_run.specs.Requests.{ackLine, sentLine}
-use Rattle.trace_run.specs.Fragments.{fragLine}
+use Rattle.trace_readers.specs.Requests.{ackLine, sentLine}
+use Rattle.trace_readers.specs.Fragments.{fragLine}
 
 -- the rooms, as a line leaves them: the store, the large one and the small one
 abbrev pub noRoom : Followed → List ℕ → List ℕ → List ℕ → Left3 Followed (List ℕ) (List ℕ) (List ℕ)

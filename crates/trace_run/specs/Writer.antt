@@ -14,9 +14,9 @@ use Rattle.writer_send_buffer.specs.declared.limits.Kind.{Kind}
 use Rattle.writer_send_buffer.specs.declared.limits.Limits.{Limits}
 use Rattle.writer_send_buffer.specs.Buffer.{newOf, evictOf}
 use Rattle.writer_steps.specs.Readers.{matchStep}
-use Rattle.trace_run.specs.declared.state.Trace.{Trace}
-use Rattle.trace_run.specs.declared.state.Followed.{Followed}
-use Rattle.trace_run.specs.State.{refusedBy, withFlow}
+use Rattle.trace_readers.specs.declared.state.Trace.{Trace}
+use Rattle.trace_readers.specs.declared.state.Followed.{Followed}
+use Rattle.trace_readers.specs.State.{refusedBy, withFlow}
 
 -- "a reliable volatile writer with 16-byte slots"
 abbrev pub kindOf : Kind

@@ -18,10 +18,10 @@ use Rattle.writer_send_buffer.specs.declared.flow.WriterSendBuffer.{WriterSendB
 use Rattle.writer_send_buffer.specs.declared.flow.Numbered.{Numbered}
 use Rattle.writer_send_buffer.specs.declared.samples.Admitted.{Admitted}
 use Rattle.writer_send_buffer.specs.Samples.{admitOf, handed}
-use Rattle.trace_run.specs.declared.state.Trace.{Trace}
-use Rattle.trace_run.specs.declared.state.Followed.{Followed}
-use Rattle.trace_run.specs.State.{refusedBy, incoherent, ownAnswer, withFlow}
-use Rattle.trace_run.specs.Rooms.{part, put, largeFits, storeFits}
+use Rattle.trace_readers.specs.declared.state.Trace.{Trace}
+use Rattle.trace_readers.specs.declared.state.Followed.{Followed}
+use Rattle.trace_readers.specs.State.{refusedBy, incoherent, ownAnswer, withFlow}
+use Rattle.trace_readers.specs.Rooms.{part, put, largeFits, storeFits}
 
 -- "It notifies every reader of each admitted number"; a free slot is none
 abbrev pub toldTo : ReaderHead → SequenceNumber → ReaderProxy → List ℕ → Left1 ReaderProxy (List ℕ)

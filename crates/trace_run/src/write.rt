@@ -4,13 +4,13 @@ ghost use Prim.Native.Nat.{_≤_, min};
 ghost use lib.ListN.{length};
 ghost use Rattle.numbers.specs.Promise.{Gives1, Gives2};
 ghost use Rattle.trace_run.specs.Writes.{toldTo, toldBoth, bothOk, admitPut, writtenOf, writeLine};
-use crate::state::Followed;
-use crate::state::Trace;
-use crate::state::coherence;
 use numbers::SequenceNumber;
 use numbers::arith::smaller;
 use reader_list::ReaderHead;
 use rtps_reader_proxy::ReaderProxy;
+use trace_readers::Followed;
+use trace_readers::Trace;
+use trace_readers::state::coherence;
 use writer_send_buffer::Admitted;
 use writer_send_buffer::Limits;
 use writer_send_buffer::WriterSendBuffer;
@@ -53,75 +53,76 @@ fn told(head: ReaderHead, proxy: ReaderProxy, unsent: &mut [u64], n: SequenceNum
     proxy.notify_new_cache_change(unsent, n).proxy
 }
 
-impl Trace {
-    // Whether the unsent numbers of both readers are coherent.
-    fn both_ok(self, large: &[u64]) -> bool
-        requires { ⌜ length (now large) ≡ 4352 ⌝ }
-        ensures { λ r. ⌜ r ≡ bothOk self (now (large .entry)) ⌝ }
-    {
-        let one = self.one;
-        let two = self.two;
-        let a = 256;
-        let b = 1280;
-        let e = 2304;
-        one.unsent_ok(&large[a..b]) & two.unsent_ok(&large[b..e])
-    }
+// Whether the unsent numbers of both readers are coherent.
+fn both_ok(trace: Trace, large: &[u64]) -> bool
+    requires { ⌜ length (now large) ≡ 4352 ⌝ }
+    ensures { λ r. ⌜ r ≡ bothOk trace (now (large .entry)) ⌝ }
+{
+    let one = trace.one;
+    let two = trace.two;
+    let a = 256;
+    let b = 1280;
+    let e = 2304;
+    one.unsent_ok(&large[a..b]) & two.unsent_ok(&large[b..e])
+}
 
-    // Both readers told.
-    fn told_both(self, large: &mut [u64], n: SequenceNumber) -> Trace
-        requires { ⌜ length (now large) ≡ 4352 ⌝ }
-        ensures { λ r. ⌜ Gives1 r (now (large .exit)) (toldBoth self n (now (large .entry))) ⌝ }
-    {
-        let heads = self.heads;
-        let flow = self.flow;
-        let a = 256;
-        let b = 1280;
-        let e = 2304;
-        let one = told(heads[0], self.one, &mut large[a..b], n);
-        let two = told(heads[1], self.two, &mut large[b..e], n);
-        Trace {
-            started: self.started,
-            flow,
-            heads,
-            one,
-            two,
-        }
+// Both readers told.
+fn told_both(trace: Trace, large: &mut [u64], n: SequenceNumber) -> Trace
+    requires { ⌜ length (now large) ≡ 4352 ⌝ }
+    ensures { λ r. ⌜ Gives1 r (now (large .exit)) (toldBoth trace n (now (large .entry))) ⌝ }
+{
+    let heads = trace.heads;
+    let flow = trace.flow;
+    let a = 256;
+    let b = 1280;
+    let e = 2304;
+    let one = told(heads[0], trace.one, &mut large[a..b], n);
+    let two = told(heads[1], trace.two, &mut large[b..e], n);
+    Trace {
+        started: trace.started,
+        flow,
+        heads,
+        one,
+        two,
     }
+}
 
-    // The payload is given.
-    fn written(self, payload: &[u8], store: &mut [u8], large: &mut [u64]) -> Followed
-        requires { ⌜ (length (now store) ≡ 4096) × (length (now large) ≡ 4352) ⌝ }
-        ensures { λ r. ⌜ Gives2 r (now (store .exit)) (now (large .exit)) (writtenOf (now (payload .entry)) self (now (store .entry)) (now (large .entry))) ⌝ }
-    {
-        let own = coherence(self.both_ok(large));
-        if own.number != 0 {
-            return self.refused(own);
-        }
-        let admitted = admitted_in(self.flow, payload, store, large);
-        let numbered = admitted.numbered;
-        let answer = numbered.answer;
-        if answer.number != 0 {
-            return self.refused(answer);
-        }
-        let heads = self.heads;
-        let after = self.with_flow(admitted.flow, heads);
-        let trace = after.told_both(large, numbered.number);
-        Followed { answer, trace }
+// The payload is given.
+fn written(trace: Trace, payload: &[u8], store: &mut [u8], large: &mut [u64]) -> Followed
+    requires { ⌜ (length (now store) ≡ 4096) × (length (now large) ≡ 4352) ⌝ }
+    ensures { λ r. ⌜ Gives2 r (now (store .exit)) (now (large .exit)) (writtenOf (now (payload .entry)) trace (now (store .entry)) (now (large .entry))) ⌝ }
+{
+    let own = coherence(both_ok(trace, large));
+    if own.number != 0 {
+        return trace.refused(own);
     }
+    let admitted = admitted_in(trace.flow, payload, store, large);
+    let numbered = admitted.numbered;
+    let answer = numbered.answer;
+    if answer.number != 0 {
+        return trace.refused(answer);
+    }
+    let heads = trace.heads;
+    let after = trace.with_flow(admitted.flow, heads);
+    let told = told_both(after, large, numbered.number);
+    Followed {
+        answer,
+        trace: told,
+    }
+}
 
-    // As many zeros as the line says; one byte too many stands for any number of bytes too many.
-    pub fn write_step(self, len: u64, store: &mut [u8], large: &mut [u64]) -> Followed
-        ensures { λ r. ⌜ Gives2 r (now (store .exit)) (now (large .exit)) (writeLine len self (now (store .entry)) (now (large .entry))) ⌝ }
-    {
-        if store.len() != 4096 {
-            return self.incoherent();
-        }
-        if large.len() != 4352 {
-            return self.incoherent();
-        }
-        let zeros: &[u8] = &[0, 0, 0, 0, 0, 0, 0, 0, 0, 0, 0, 0, 0, 0, 0, 0, 0];
-        let start = 0;
-        let n = smaller(len as usize, 17);
-        self.written(&zeros[start..n], store, large)
+// As many zeros as the line says; one byte too many stands for any number of bytes too many.
+pub fn write_step(trace: Trace, len: u64, store: &mut [u8], large: &mut [u64]) -> Followed
+    ensures { λ r. ⌜ Gives2 r (now (store .exit)) (now (large .exit)) (writeLine len trace (now (store .entry)) (now (large .entry))) ⌝ }
+{
+    if store.len() != 4096 {
+        return trace.incoherent();
     }
+    if large.len() != 4352 {
+        return trace.incoherent();
+    }
+    let zeros: &[u8] = &[0, 0, 0, 0, 0, 0, 0, 0, 0, 0, 0, 0, 0, 0, 0, 0, 0];
+    let start = 0;
+    let n = smaller(len as usize, 17);
+    written(trace, &zeros[start..n], store, large)
 }

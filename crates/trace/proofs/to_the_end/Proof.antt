@@ -1,99 +1,114 @@
 -- `to_the_end` is safe. Assumes nothing.
-use Prim.Native.Nat.{ℕ, suc, _+_, _-_, _*_, _<_, _≤_, _/_, min, max}
-use mathlib.Core.Path.{_≡_, refl, sym, ap, subst, _∙_}
-use mathlib.Core.Bool.{Bool, true, false, not, cond, _&&_, _||_}
-use mathlib.Core.List.{List, [], _∷_, _++_}
-use mathlib.Core.Logic.{⊎-elim}
+use mathlib.Core.Path.{refl, _∙_}
+use Prim.Native.Nat.{ℕ, _≤_, _<_, _+_, _-_, _*_}
+use mathlib.Core.Path.{_≡_}
 use native.Mathlib.Omega.{arith}
-use lib.ListN.{length, take, drop, getD, set}
 use borrow.Author.Needs.{needs}
+use lib.ListN.{length}
 use Rattle.trace.proofs.to_the_end.Statement.{statement}
 use Rattle.trace.proofs.to_the_end.Tie as tie
 use Rattle.trace.proofs.to_the_end.Reads as reads
 use Rattle.trace.proofs.to_the_end.Lts as lts
-use Rattle.io.proofs.write_all.Reads as write-all-reads
-use Rattle.trace.proofs.Run.ended.Reads as ended-reads
-use Rattle.trace.proofs.Run.flushed.Reads as flushed-reads
-use Rattle.trace.proofs.Run.read_some.Reads as read-some-reads
-use Rattle.trace_run.proofs.state.Trace.start.Reads as start-reads
+use Rattle.trace.proofs.Run.after.Reads as after-reads
+use Rattle.trace.proofs.Run.refilled.Reads as refilled-reads
+use Rattle.trace.proofs.reach.Reads as reach-reads
+use Rattle.trace_answers.proofs.input.Answering.answer_piece.Reads as answer-piece-reads
+use Rattle.trace_answers.proofs.input.Answering.start.Reads as start-reads
 
 abbrev Inv-loop : tie.InvT-loop
-Inv-loop explain line₀ out₀ store₀ large₀ small₀ r₀ turns₀ t11 line out store large small r turns = (length line ≡ length line₀) × ((length out ≡ length out₀) × ((length store ≡ length store₀) × ((length large ≡ length large₀) × (length small ≡ length small₀))))
+Inv-loop explain piece₀ line₀ out₀ store₀ large₀ small₀ r₀ start turns₀ piece line out store large small r turns = (length piece ≡ length piece₀) × ((length line ≡ length line₀) × ((length out ≡ length out₀) × ((length store ≡ length store₀) × ((length large ≡ length large₀) × (length small ≡ length small₀)))))
 
 abbrev μ-loop : tie.MeasureT-loop
-μ-loop explain line₀ out₀ store₀ large₀ small₀ r₀ turns₀ t11 line out store large small r turns = turns
+μ-loop explain piece₀ line₀ out₀ store₀ large₀ small₀ r₀ start turns₀ piece line out store large small r turns = turns
 
 start-requires : tie.Need-start-requires Inv-loop μ-loop
 start-requires c κs = search needs
 
 loop-holds : tie.Need-loop-holds Inv-loop μ-loop
-loop-holds c = (refl, (refl, (refl, (refl, refl))))
+loop-holds c = (refl, (refl, (refl, (refl, (refl, refl)))))
 
-read-some-requires : tie.Need-read-some-requires Inv-loop μ-loop
-read-some-requires c κs = search needs
+refilled-requires : tie.Need-refilled-requires Inv-loop μ-loop
+refilled-requires c κs = search needs
 
-sub-turns : tie.Need-sub-turns Inv-loop μ-loop
-sub-turns c = omega (arith, c .before .before .before .before .before .before .before .before .before .before .before .before .before .before .before .before .before .before .loop-test .taken)
+reach-requires : tie.Need-reach-requires Inv-loop μ-loop
+reach-requires c κs = search needs
+
+sub-answer-piece : tie.Need-sub-answer-piece Inv-loop μ-loop
+sub-answer-piece c = search needs
+
+part-answer-piece-start : tie.Need-part-answer-piece-start Inv-loop μ-loop
+part-answer-piece-start c = search needs
+
+part-answer-piece-end : tie.Need-part-answer-piece-end Inv-loop μ-loop
+part-answer-piece-end c = search needs
+
+answer-piece-requires : tie.Need-answer-piece-requires Inv-loop μ-loop
+answer-piece-requires c κs = search needs
+
+after-requires : tie.Need-after-requires Inv-loop μ-loop
+after-requires c κs = search needs
 
 loop-less : tie.Need-loop-less Inv-loop μ-loop
-loop-less c = omega (arith, c .before .before .before .before .before .before .before .before .before .before .before .before .before .before .before .before .before .before .loop-test .taken)
+loop-less c = omega (arith, c .before .before .before .before .before .before .before .before .before .before .before .before .before .before .before .before .before .before .before .before .before .before .before .before .before .before .before .before .before .before .before .before .before .loop-test .taken)
 
 loop-again : tie.Need-loop-again Inv-loop μ-loop
-loop-again c = (c .before .before .before .before .before .before .before .before .before .before .before .before .read-some .kept .1 .0 ∙ c .before .before .before .before .before .before .before .before .before .before .before .before .before .before .before .before .before .before .before .loop .inv .0, (c .before .before .before .before .before .before .before .before .before .before .before .before .read-some .kept .1 .1 .0 ∙ c .before .before .before .before .before .before .before .before .before .before .before .before .before .before .before .before .before .before .before .loop .inv .1 .0, (c .before .before .before .before .before .before .before .before .before .before .before .before .read-some .kept .1 .1 .1 .0 ∙ c .before .before .before .before .before .before .before .before .before .before .before .before .before .before .before .before .before .before .before .loop .inv .1 .1 .0, (c .before .before .before .before .before .before .before .before .before .before .before .before .read-some .kept .1 .1 .1 .1 .0 ∙ c .before .before .before .before .before .before .before .before .before .before .before .before .before .before .before .before .before .before .before .loop .inv .1 .1 .1 .0, c .before .before .before .before .before .before .before .before .before .before .before .before .read-some .kept .1 .1 .1 .1 .1 .0 ∙ c .before .before .before .before .before .before .before .before .before .before .before .before .before .before .before .before .before .before .before .loop .inv .1 .1 .1 .1))))
+loop-again c =
+    let loop = c .before .before .before .before .before .before .before .before .before .before .before .before .before .before .before .before .before .before .before .before .before .before .before .before .before .before .before .before .before .before .before .before .before .before .loop in
+    let refilled = c .before .before .before .before .before .before .before .before .before .before .before .before .before .before .before .before .before .before .before .before .before .before .before .before .before .before .before .before .before .before .before .refilled in
+    let answer-piece = c .before .before .before .before .before .before .before .before .before .before .before .before .before .before .before .before .before .answer-piece in
+    let after = c .before .before .before .before .after in (
+      refilled .kept .1 .0 ∙ loop .inv .0,
+      (
+        answer-piece .kept .1 .1 .0 ∙ loop .inv .1 .0,
+        (
+          after .kept .1 .1 .1 .1 .0 ∙ answer-piece .kept .1 .1 .1 .0 ∙ loop .inv .1 .1 .0,
+          (answer-piece .kept .1 .1 .1 .1 .0 ∙ loop .inv .1 .1 .1 .0, (answer-piece .kept .1 .1 .1 .1 .1 .0 ∙ loop .inv .1 .1 .1 .1 .0, (answer-piece .kept .1 .1 .1 .1 .1 .1 .0 ∙ loop .inv .1 .1 .1 .1 .1))),
+        ),
+      ),
+    )
+
+sub-turns : tie.Need-sub-turns Inv-loop μ-loop
+sub-turns c = omega (arith, c .before .before .before .before .before .before .before .before .before .before .before .before .before .before .before .before .before .before .before .before .before .before .before .before .before .before .before .before .before .before .before .before .before .loop-test .taken)
 
 loop-less-2 : tie.Need-loop-less-2 Inv-loop μ-loop
-loop-less-2 c = omega (arith, c .before .before .before .before .before .before .before .before .before .before .before .before .before .before .before .before .before .before .loop-test .taken)
+loop-less-2 c = omega (arith, c .before .before .before .before .before .before .before .before .before .before .before .before .before .before .before .before .before .before .before .before .before .before .before .before .before .before .before .before .before .before .before .before .before .loop-test .taken)
 
 loop-again-2 : tie.Need-loop-again-2 Inv-loop μ-loop
-loop-again-2 c = (c .before .before .before .before .before .before .before .before .before .before .before .before .read-some .kept .1 .0 ∙ c .before .before .before .before .before .before .before .before .before .before .before .before .before .before .before .before .before .before .before .loop .inv .0, (c .before .before .before .before .before .before .before .before .before .before .before .before .read-some .kept .1 .1 .0 ∙ c .before .before .before .before .before .before .before .before .before .before .before .before .before .before .before .before .before .before .before .loop .inv .1 .0, (c .before .before .before .before .before .before .before .before .before .before .before .before .read-some .kept .1 .1 .1 .0 ∙ c .before .before .before .before .before .before .before .before .before .before .before .before .before .before .before .before .before .before .before .loop .inv .1 .1 .0, (c .before .before .before .before .before .before .before .before .before .before .before .before .read-some .kept .1 .1 .1 .1 .0 ∙ c .before .before .before .before .before .before .before .before .before .before .before .before .before .before .before .before .before .before .before .loop .inv .1 .1 .1 .0, c .before .before .before .before .before .before .before .before .before .before .before .before .read-some .kept .1 .1 .1 .1 .1 .0 ∙ c .before .before .before .before .before .before .before .before .before .before .before .before .before .before .before .before .before .before .before .loop .inv .1 .1 .1 .1))))
-
-ended-requires : tie.Need-ended-requires Inv-loop μ-loop
-ended-requires c κs = search needs
-
-flushed-requires : tie.Need-flushed-requires Inv-loop μ-loop
-flushed-requires c κs = search needs
-
-slice-aggregate-write-all : tie.Need-slice-aggregate-write-all Inv-loop μ-loop
-slice-aggregate-write-all c = search needs
-
-write-all-requires : tie.Need-write-all-requires Inv-loop μ-loop
-write-all-requires c κs = search needs
+loop-again-2 c =
+    let loop = c .before .before .before .before .before .before .before .before .before .before .before .before .before .before .before .before .before .before .before .before .before .before .before .before .before .before .before .before .before .before .before .before .before .before .loop in
+    let refilled = c .before .before .before .before .before .before .before .before .before .before .before .before .before .before .before .before .before .before .before .before .before .before .before .before .before .before .before .before .before .before .before .refilled in
+    let answer-piece = c .before .before .before .before .before .before .before .before .before .before .before .before .before .before .before .before .before .answer-piece in
+    let after = c .before .before .before .before .after in (
+      refilled .kept .1 .0 ∙ loop .inv .0,
+      (
+        answer-piece .kept .1 .1 .0 ∙ loop .inv .1 .0,
+        (
+          after .kept .1 .1 .1 .1 .0 ∙ answer-piece .kept .1 .1 .1 .0 ∙ loop .inv .1 .1 .0,
+          (answer-piece .kept .1 .1 .1 .1 .0 ∙ loop .inv .1 .1 .1 .0, (answer-piece .kept .1 .1 .1 .1 .1 .0 ∙ loop .inv .1 .1 .1 .1 .0, (answer-piece .kept .1 .1 .1 .1 .1 .1 .0 ∙ loop .inv .1 .1 .1 .1 .1))),
+        ),
+      ),
+    )
 
 same-length : tie.Need-same-length Inv-loop μ-loop
-same-length c = c .before .before .before .before .before .before .before .before .before .before .before .before .before .before .before .before .before .before .before .before .loop .inv .0
+same-length c = c .before .loop .inv .0
 
 same-length-2 : tie.Need-same-length-2 Inv-loop μ-loop
-same-length-2 c = c .before .before .before .before .before .before .before .before .before .before .before .before .before .ended .kept .1 .1 .0 ∙ c .before .before .before .before .before .before .before .before .before .before .before .before .before .before .before .before .before .before .before .before .loop .inv .1 .0
+same-length-2 c = c .before .loop .inv .1 .0
 
 same-length-3 : tie.Need-same-length-3 Inv-loop μ-loop
-same-length-3 c = c .before .before .before .before .before .before .before .before .before .before .before .before .before .ended .kept .1 .1 .1 .0 ∙ c .before .before .before .before .before .before .before .before .before .before .before .before .before .before .before .before .before .before .before .before .loop .inv .1 .1 .0
+same-length-3 c = c .before .loop .inv .1 .1 .0
 
 same-length-4 : tie.Need-same-length-4 Inv-loop μ-loop
-same-length-4 c = c .before .before .before .before .before .before .before .before .before .before .before .before .before .ended .kept .1 .1 .1 .1 .0 ∙ c .before .before .before .before .before .before .before .before .before .before .before .before .before .before .before .before .before .before .before .before .loop .inv .1 .1 .1 .0
+same-length-4 c = c .before .loop .inv .1 .1 .1 .0
 
 same-length-5 : tie.Need-same-length-5 Inv-loop μ-loop
-same-length-5 c = c .before .before .before .before .before .before .before .before .before .before .before .before .before .ended .kept .1 .1 .1 .1 .1 .0 ∙ c .before .before .before .before .before .before .before .before .before .before .before .before .before .before .before .before .before .before .before .before .loop .inv .1 .1 .1 .1
-
-returns : tie.Need-returns Inv-loop μ-loop
-returns c = tt
+same-length-5 c = c .before .loop .inv .1 .1 .1 .1 .0
 
 same-length-6 : tie.Need-same-length-6 Inv-loop μ-loop
-same-length-6 c = c .before .before .before .before .before .before .before .before .before .before .before .before .before .before .before .before .before .before .loop .inv .0
+same-length-6 c = c .before .loop .inv .1 .1 .1 .1 .1
 
-same-length-7 : tie.Need-same-length-7 Inv-loop μ-loop
-same-length-7 c = c .before .before .before .before .before .before .before .before .before .before .before .ended .kept .1 .1 .0 ∙ c .before .before .before .before .before .before .before .before .before .before .before .before .before .before .before .before .before .before .loop .inv .1 .0
-
-same-length-8 : tie.Need-same-length-8 Inv-loop μ-loop
-same-length-8 c = c .before .before .before .before .before .before .before .before .before .before .before .ended .kept .1 .1 .1 .0 ∙ c .before .before .before .before .before .before .before .before .before .before .before .before .before .before .before .before .before .before .loop .inv .1 .1 .0
-
-same-length-9 : tie.Need-same-length-9 Inv-loop μ-loop
-same-length-9 c = c .before .before .before .before .before .before .before .before .before .before .before .ended .kept .1 .1 .1 .1 .0 ∙ c .before .before .before .before .before .before .before .before .before .before .before .before .before .before .before .before .before .before .loop .inv .1 .1 .1 .0
-
-same-length-10 : tie.Need-same-length-10 Inv-loop μ-loop
-same-length-10 c = c .before .before .before .before .before .before .before .before .before .before .before .ended .kept .1 .1 .1 .1 .1 .0 ∙ c .before .before .before .before .before .before .before .before .before .before .before .before .before .before .before .before .before .before .loop .inv .1 .1 .1 .1
-
-returns-2 : tie.Need-returns-2 Inv-loop μ-loop
-returns-2 c = tt
+returns : tie.Need-returns Inv-loop μ-loop
+returns c = search needs
 
 pub to-the-end-spec : {M : Type 1} → statement M
 to-the-end-spec =
@@ -103,25 +118,22 @@ to-the-end-spec =
     μ-loop
     start-requires
     loop-holds
-    read-some-requires
-    sub-turns
+    refilled-requires
+    reach-requires
+    sub-answer-piece
+    part-answer-piece-start
+    part-answer-piece-end
+    answer-piece-requires
+    after-requires
     loop-less
     loop-again
+    sub-turns
     loop-less-2
     loop-again-2
-    ended-requires
-    flushed-requires
-    slice-aggregate-write-all
-    write-all-requires
     same-length
     same-length-2
     same-length-3
     same-length-4
     same-length-5
-    returns
     same-length-6
-    same-length-7
-    same-length-8
-    same-length-9
-    same-length-10
-    returns-2)
+    returns)

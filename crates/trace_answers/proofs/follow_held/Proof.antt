@@ -10,8 +10,8 @@ use Rattle.trace_answers.proofs.follow_held.Statement.{statement}
 use Rattle.trace_answers.proofs.follow_held.Tie as tie
 use Rattle.trace_answers.proofs.follow_held.Reads as reads
 use Rattle.trace_answers.proofs.follow_held.Lts as lts
-use Rattle.trace_run.proofs.state.Trace.follow.Reads as follow-reads
-use Rattle.trace_run.proofs.state.Trace.not_understood.Reads as not-understood-reads
+use Rattle.trace_run.proofs.follow.follow.Reads as follow-reads
+use Rattle.trace_readers.proofs.state.Trace.not_understood.Reads as not-understood-reads
 
 not-understood-requires : tie.Need-not-understood-requires
 not-understood-requires c κs = search needs
@@ -42,8 +42,11 @@ same-length-3 c = search needs
 
 returns-2 : tie.Need-returns-2
 returns-2 c =
-    held-whole (c .before .before .before .before .before .before .before .before .before .before .before .before .before .before .before .before .args .held) (c .before .before .before .before .before .before .before .before .before .before .before .before .before .before .before .before .args .line .now) (c .before .before .before .before .before .before .before .before .before .before .before .before .before .before .before .before .args .trace) (c .before .before .before .before .before .before .before .before .before .before .before .before .before .before .before .before .args .store .now) (c .before .before .before .before .before .before .before .before .before .before .before .before .before .before .before .before .args .large .now) (c .before .before .before .before .before .before .before .before .before .before .before .before .before .before .before .before .args .small .now)
-    _ _ _ _ (omega (arith, c .before .before .before .before .before .before .before .before .before .before .before .if1 .left)) (c .before .before .before .before .before .before .follow .ensures)
+    let args = c .before .before .before .before .before .before .before .before .before .before .before .before .before .before .before .before .args in
+    let if1 = c .before .before .before .before .before .before .before .before .before .before .before .if1 in
+    let follow = c .before .before .before .before .before .before .follow in
+    held-whole (args .held) (args .line .now) (args .trace) (args .store .now) (args .large .now) (args .small .now)
+    _ _ _ _ (omega (arith, if1 .left)) (follow .ensures)
 
 pub follow-held-spec : {M : Type 1} → statement M
 follow-held-spec =

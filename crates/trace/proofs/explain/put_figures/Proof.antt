@@ -55,7 +55,14 @@ put-text-requires-4 : tie.Need-put-text-requires-4
 put-text-requires-4 c κs = search needs
 
 same-length-2 : tie.Need-same-length-2
-same-length-2 c = c .before .before .put-text4 .kept .0 ∙ c .before .before .before .before .before .before .before .put-number2 .kept .0 ∙ c .before .before .before .before .before .before .before .before .before .before .before .put-text3 .kept .0 ∙ c .before .before .before .before .before .before .before .before .before .before .before .before .before .before .before .before .put-kept .kept .0 ∙ c .before .before .before .before .before .before .before .before .before .before .before .before .before .before .before .before .before .before .before .before .put-number .kept .0 ∙ c .before .before .before .before .before .before .before .before .before .before .before .before .before .before .before .before .before .before .before .before .before .before .before .before .put-text2 .kept .0
+same-length-2 c =
+    let put-text2 = c .before .before .before .before .before .before .before .before .before .before .before .before .before .before .before .before .before .before .before .before .before .before .before .before .put-text2 in
+    let put-number = c .before .before .before .before .before .before .before .before .before .before .before .before .before .before .before .before .before .before .before .before .put-number in
+    let put-kept = c .before .before .before .before .before .before .before .before .before .before .before .before .before .before .before .before .put-kept in
+    let put-text3 = c .before .before .before .before .before .before .before .before .before .before .before .put-text3 in
+    let put-number2 = c .before .before .before .before .before .before .before .put-number2 in
+    let put-text4 = c .before .before .put-text4 in
+    put-text4 .kept .0 ∙ put-number2 .kept .0 ∙ put-text3 .kept .0 ∙ put-kept .kept .0 ∙ put-number .kept .0 ∙ put-text2 .kept .0
 
 returns-2 : tie.Need-returns-2
 returns-2 c = search needs

@@ -34,7 +34,12 @@ put-meaning-requires : tie.Need-put-meaning-requires
 put-meaning-requires c κs = search needs
 
 same-length : tie.Need-same-length
-same-length c = c .before .before .put-meaning .kept .0 ∙ c .before .before .before .before .before .before .put-text2 .kept .0 ∙ c .before .before .before .before .before .before .before .before .before .before .before .put-number .kept .0 ∙ c .before .before .before .before .before .before .before .before .before .before .before .before .before .before .before .put-text .kept .0
+same-length c =
+    let put-text = c .before .before .before .before .before .before .before .before .before .before .before .before .before .before .before .put-text in
+    let put-number = c .before .before .before .before .before .before .before .before .before .before .before .put-number in
+    let put-text2 = c .before .before .before .before .before .before .put-text2 in
+    let put-meaning = c .before .before .put-meaning in
+    put-meaning .kept .0 ∙ put-text2 .kept .0 ∙ put-number .kept .0 ∙ put-text .kept .0
 
 returns : tie.Need-returns
 returns c = search needs

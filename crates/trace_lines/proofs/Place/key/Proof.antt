@@ -30,8 +30,13 @@ loop-holds c = (omega arith, omega arith, rw add-zero refl)
 
 returns-2 : tie.Need-returns-2 Inv-loop μ-loop
 returns-2 c =
-    let g : length (c .before .before .before .before .before .before .before .before .args .s .now) ≤ c .before .before .before .before .before .before .before .before .args .self .at + c .before .before .loop .j = omega (arith, c .before .before .before .left-of .ensures) in
-    rw (not-false (c .before .before .before .before .before .before .before .before .args .self .ok) (c .before .before .before .before .if1 .left)) (sym (c .before .before .loop .inv .2 ∙ past-short (c .before .before .before .before .before .before .before .before .args .k .now) (c .before .before .before .before .before .before .before .before .args .s .now) (c .before .before .before .before .before .before .before .before .args .self .at) (c .before .before .loop .j) (c .before .loop-test .taken) g))
+    let args = c .before .before .before .before .before .before .before .before .args in
+    let if1 = c .before .before .before .before .if1 in
+    let left-of = c .before .before .before .left-of in
+    let loop = c .before .before .loop in
+    let loop-test = c .before .loop-test in
+    let g : length (args .s .now) ≤ args .self .at + loop .j = omega (arith, left-of .ensures) in
+    rw (not-false (args .self .ok) (if1 .left)) (sym (loop .inv .2 ∙ past-short (args .k .now) (args .s .now) (args .self .at) (loop .j) (loop-test .taken) g))
 
 add-if3 : tie.Need-add-if3 Inv-loop μ-loop
 add-if3 c = omega (arith, c .before .before .before .left-of .ensures)
@@ -44,8 +49,13 @@ shared-slice-read-if3-2 c = omega arith
 
 returns-3 : tie.Need-returns-3 Inv-loop μ-loop
 returns-3 c =
-    let g : c .before .before .before .before .before .before .before .before .before .before .before .args .self .at + c .before .before .before .before .before .loop .j < length (c .before .before .before .before .before .before .before .before .before .before .before .args .s .now) = omega (arith, c .before .before .before .before .before .before .left-of .ensures) in
-    rw (not-false (c .before .before .before .before .before .before .before .before .before .before .before .args .self .ok) (c .before .before .before .before .before .before .before .if1 .left)) (sym (c .before .before .before .before .before .loop .inv .2 ∙ past-other (c .before .before .before .before .before .before .before .before .before .before .before .args .k .now) (c .before .before .before .before .before .before .before .before .before .before .before .args .s .now) (c .before .before .before .before .before .before .before .before .before .before .before .args .self .at) (c .before .before .before .before .before .loop .j) (c .before .before .before .before .loop-test .taken) g (c .if3 .taken)))
+    let args = c .before .before .before .before .before .before .before .before .before .before .before .args in
+    let if1 = c .before .before .before .before .before .before .before .if1 in
+    let left-of = c .before .before .before .before .before .before .left-of in
+    let loop = c .before .before .before .before .before .loop in
+    let loop-test = c .before .before .before .before .loop-test in
+    let g : args .self .at + loop .j < length (args .s .now) = omega (arith, left-of .ensures) in
+    rw (not-false (args .self .ok) (if1 .left)) (sym (loop .inv .2 ∙ past-other (args .k .now) (args .s .now) (args .self .at) (loop .j) (loop-test .taken) g (c .if3 .taken)))
 
 add-j : tie.Need-add-j Inv-loop μ-loop
 add-j c = omega arith
@@ -55,14 +65,22 @@ loop-less c = omega arith
 
 loop-again : tie.Need-loop-again Inv-loop μ-loop
 loop-again c =
-    let g : c .before .before .before .before .before .before .before .before .before .before .before .args .self .at + c .before .before .before .before .before .loop .j < length (c .before .before .before .before .before .before .before .before .before .before .before .args .s .now) = omega (arith, c .before .before .before .before .before .before .left-of .ensures) in
-    (omega arith, omega arith, c .before .before .before .before .before .loop .inv .2 ∙ past-more (c .before .before .before .before .before .before .before .before .before .before .before .args .k .now) (c .before .before .before .before .before .before .before .before .before .before .before .args .s .now) (c .before .before .before .before .before .before .before .before .before .before .before .args .self .at) (c .before .before .before .before .before .loop .j) (c .before .before .before .before .loop-test .taken) g (c .if3 .left))
+    let args = c .before .before .before .before .before .before .before .before .before .before .before .args in
+    let left-of = c .before .before .before .before .before .before .left-of in
+    let loop = c .before .before .before .before .before .loop in
+    let loop-test = c .before .before .before .before .loop-test in
+    let g : args .self .at + loop .j < length (args .s .now) = omega (arith, left-of .ensures) in
+    (omega arith, omega arith, loop .inv .2 ∙ past-more (args .k .now) (args .s .now) (args .self .at) (loop .j) (loop-test .taken) g (c .if3 .left))
 
 add-t8 : tie.Need-add-t8 Inv-loop μ-loop
 add-t8 c = omega (arith, c .before .before .left-of .ensures)
 
 returns-4 : tie.Need-returns-4 Inv-loop μ-loop
-returns-4 c = rw (not-false (c .before .before .before .before .before .before .before .args .self .ok) (c .before .before .before .if1 .left)) (sym (c .before .loop .inv .2 ∙ past-all (c .before .before .before .before .before .before .before .args .k .now) (c .before .before .before .before .before .before .before .args .s .now) (c .before .before .before .before .before .before .before .args .self .at) (c .before .loop .j) (c .loop-test .left)))
+returns-4 c =
+    let args = c .before .before .before .before .before .before .before .args in
+    let if1 = c .before .before .before .if1 in
+    let loop = c .before .loop in
+    rw (not-false (args .self .ok) (if1 .left)) (sym (loop .inv .2 ∙ past-all (args .k .now) (args .s .now) (args .self .at) (loop .j) (c .loop-test .left)))
 
 pub key-spec : {M : Type 1} → statement M
 key-spec =

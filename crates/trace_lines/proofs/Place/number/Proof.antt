@@ -29,7 +29,11 @@ no-number-requires-2 : tie.Need-no-number-requires-2 Inv-loop μ-loop
 no-number-requires-2 c κs = search needs
 
 returns-2 : tie.Need-returns-2 Inv-loop μ-loop
-returns-2 c = record { is = rw (c .no-number2 .ensures, not-false (c .before .before .before .before .before .args .self .ok) (c .before .before .if1 .left), done (c .before .before .before .before .before .args .s .now) (c .before .before .before .before .before .args .self .at) (c .before .if2 .taken)); small = rw (c .no-number2 .ensures) (omega arith) }
+returns-2 c =
+    let args = c .before .before .before .before .before .args in
+    let if1 = c .before .before .if1 in
+    let if2 = c .before .if2 in
+    record { is = rw (c .no-number2 .ensures, not-false (args .self .ok) (if1 .left), done (args .s .now) (args .self .at) (if2 .taken)); small = rw (c .no-number2 .ensures) (omega arith) }
 
 shared-slice-read-b : tie.Need-shared-slice-read-b Inv-loop μ-loop
 shared-slice-read-b c = search needs
@@ -41,7 +45,17 @@ no-number-requires-3 : tie.Need-no-number-requires-3 Inv-loop μ-loop
 no-number-requires-3 c κs = search needs
 
 returns-3 : tie.Need-returns-3 Inv-loop μ-loop
-returns-3 c = record { is = rw (c .no-number3 .ensures, not-false (c .before .before .before .before .before .before .before .before .args .self .ok) (c .before .before .before .before .before .if1 .left), here (c .before .before .before .before .before .before .before .before .args .s .now) (c .before .before .before .before .before .before .before .before .args .self .at) (c .before .before .before .before .if2 .left), sym (c .before .before .is-digit .ensures) ∙ not-true _ (c .before .if3 .taken)); small = rw (c .no-number3 .ensures) (omega arith) }
+returns-3 c =
+    let args = c .before .before .before .before .before .before .before .before .args in
+    let if1 = c .before .before .before .before .before .if1 in
+    let if2 = c .before .before .before .before .if2 in
+    let is-digit = c .before .before .is-digit in
+    let if3 = c .before .if3 in
+    record {
+      is = rw (c .no-number3 .ensures, not-false (args .self .ok) (if1 .left), here (args .s .now) (args .self .at) (if2 .left), sym (is-digit .ensures) ∙ not-true _ (if3 .taken));
+      small = rw
+          (c .no-number3 .ensures) (omega arith);
+    }
 
 sub-v : tie.Need-sub-v Inv-loop μ-loop
 sub-v c = digit-low (getD (c .before .before .before .before .before .before .before .args .s .now) (c .before .before .before .before .before .before .before .args .self .at) 0) (sym (c .before .is-digit .ensures) ∙ not-false _ (c .if3 .left))
@@ -54,10 +68,13 @@ add-i c = search needs
 
 loop-holds : tie.Need-loop-holds Inv-loop μ-loop
 loop-holds c =
-    let d = (sym (c .before .is-digit .ensures) ∙ not-false _ (c .if3 .left)) in
-    let lo = digit-low (getD (c .before .before .before .before .before .before .before .args .s .now) (c .before .before .before .before .before .before .before .args .self .at) 0) d in
-    let hi = digit-high (getD (c .before .before .before .before .before .before .before .args .s .now) (c .before .before .before .before .before .before .before .args .self .at) 0) d in
-    (omega arith, omega arith, first-fits ((getD (c .before .before .before .before .before .before .before .args .s .now) (c .before .before .before .before .before .before .before .args .self .at) 0) - 48) (omega arith), rw (here (c .before .before .before .before .before .before .before .args .s .now) (c .before .before .before .before .before .before .before .args .self .at) (c .before .before .before .if2 .left), d))
+    let args = c .before .before .before .before .before .before .before .args in
+    let if2 = c .before .before .before .if2 in
+    let is-digit = c .before .is-digit in
+    let d = (sym (is-digit .ensures) ∙ not-false _ (c .if3 .left)) in
+    let lo = digit-low (getD (args .s .now) (args .self .at) 0) d in
+    let hi = digit-high (getD (args .s .now) (args .self .at) 0) d in
+    (omega arith, omega arith, first-fits ((getD (args .s .now) (args .self .at) 0) - 48) (omega arith), rw (here (args .s .now) (args .self .at) (if2 .left), d))
 
 shared-slice-read-d : tie.Need-shared-slice-read-d Inv-loop μ-loop
 shared-slice-read-d c = omega arith
@@ -70,10 +87,17 @@ number-to-requires c κs = search needs
 
 returns-4 : tie.Need-returns-4 Inv-loop μ-loop
 returns-4 c =
-    let l = c .before .before .before .before .before .loop in
-    let s = (c .before .before .before .before .before .before .before .before .before .before .before .before .before .args .s .now) in
+    let args = c .before .before .before .before .before .before .before .before .before .before .before .before .before .args in
+    let if1 = c .before .before .before .before .before .before .before .before .before .before .if1 in
+    let loop = c .before .before .before .before .before .loop in
+    let loop-test = c .before .before .before .before .loop-test in
+    let is-digit2 = c .before .before .is-digit2 in
+    let if4 = c .before .if4 in
+    let l = loop in
+    let s = (args .s .now) in
     record {
-      is = rw (c .number-to .ensures, not-false (c .before .before .before .before .before .before .before .before .before .before .before .before .before .args .self .ok) (c .before .before .before .before .before .before .before .before .before .before .if1 .left)) (to-is s (l .i) (l .v) ∙ sym (l .inv .3 ∙ digits-other s (l .i) (l .v) (l .left) (c .before .before .before .before .loop-test .taken) (sym (c .before .before .is-digit2 .ensures) ∙ not-true _ (c .before .if4 .taken))));
+      is = rw (c .number-to .ensures, not-false (args .self .ok) (if1 .left))
+          (to-is s (l .i) (l .v) ∙ sym (l .inv .3 ∙ digits-other s (l .i) (l .v) (l .left) (loop-test .taken) (sym (is-digit2 .ensures) ∙ not-true _ (if4 .taken))));
       small = rw (c .number-to .ensures) (to-small (l .v) (l .i));
     }
 
@@ -82,10 +106,17 @@ no-number-requires-4 c κs = search needs
 
 returns-5 : tie.Need-returns-5 Inv-loop μ-loop
 returns-5 c =
-    let l = c .before .before .before .before .before .before .loop in
-    let s = (c .before .before .before .before .before .before .before .before .before .before .before .before .before .before .args .s .now) in
+    let args = c .before .before .before .before .before .before .before .before .before .before .before .before .before .before .args in
+    let if1 = c .before .before .before .before .before .before .before .before .before .before .before .if1 in
+    let loop = c .before .before .before .before .before .before .loop in
+    let loop-test = c .before .before .before .before .before .loop-test in
+    let is-digit2 = c .before .before .before .is-digit2 in
+    let if4 = c .before .before .if4 in
+    let if5 = c .before .if5 in
+    let l = loop in
+    let s = (args .s .now) in
     record {
-      is = rw (c .no-number4 .ensures, not-false (c .before .before .before .before .before .before .before .before .before .before .before .before .before .before .args .self .ok) (c .before .before .before .before .before .before .before .before .before .before .before .if1 .left)) (sym (l .inv .3 ∙ digits-long s (l .i) (l .v) (l .left) (c .before .before .before .before .before .loop-test .taken) (sym (c .before .before .before .is-digit2 .ensures) ∙ not-false _ (c .before .before .if4 .left)) (c .before .if5 .taken)));
+      is = rw (c .no-number4 .ensures, not-false (args .self .ok) (if1 .left)) (sym (l .inv .3 ∙ digits-long s (l .i) (l .v) (l .left) (loop-test .taken) (sym (is-digit2 .ensures) ∙ not-false _ (if4 .left)) (if5 .taken)));
       small = rw (c .no-number4 .ensures) (omega arith);
     }
 
@@ -139,10 +170,14 @@ number-to-requires-2 c κs = search needs
 
 returns-6 : tie.Need-returns-6 Inv-loop μ-loop
 returns-6 c =
-    let l = c .before .before .loop in
-    let s = (c .before .before .before .before .before .before .before .before .before .before .args .s .now) in
+    let args = c .before .before .before .before .before .before .before .before .before .before .args in
+    let if1 = c .before .before .before .before .before .before .before .if1 in
+    let loop = c .before .before .loop in
+    let loop-test = c .before .loop-test in
+    let l = loop in
+    let s = (args .s .now) in
     record {
-      is = rw (c .number-to2 .ensures, not-false (c .before .before .before .before .before .before .before .before .before .before .args .self .ok) (c .before .before .before .before .before .before .before .if1 .left)) (to-is s (l .i) (l .v) ∙ sym (l .inv .3 ∙ digits-end s (l .i) (l .v) (l .left) (c .before .loop-test .left)));
+      is = rw (c .number-to2 .ensures, not-false (args .self .ok) (if1 .left)) (to-is s (l .i) (l .v) ∙ sym (l .inv .3 ∙ digits-end s (l .i) (l .v) (l .left) (loop-test .left)));
       small = rw (c .number-to2 .ensures) (to-small (l .v) (l .i));
     }
 

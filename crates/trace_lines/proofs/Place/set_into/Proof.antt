@@ -31,9 +31,14 @@ same-length c = search needs
 
 returns-3 : tie.Need-returns-3
 returns-3 c =
-    let a = c .before .before .before .before .before .before .before .before .before .args in
-    let e : setOf (length (a .room .now)) (a .least) (restOf (a .s .now) (a .self)) ≡ listedIn (length (a .room .now)) (a .least) (drop (a .self .at) (a .s .now)) = rw (not-false (c .before .before .before .before .before .before .before .before .before .args .self .ok) (c .before .before .before .before .before .if1 .left), here (a .s .now) (a .self .at) (c .before .before .before .before .if2 .left)) refl in
-    rw e (c .before .before .numbers-in .ensures)
+    let args = c .before .before .before .before .before .before .before .before .before .args in
+    let if1 = c .before .before .before .before .before .if1 in
+    let if2 = c .before .before .before .before .if2 in
+    let numbers-in = c .before .before .numbers-in in
+    let a = args in
+    let e : setOf (length (a .room .now)) (a .least) (restOf (a .s .now) (a .self)) ≡ listedIn (length (a .room .now)) (a .least) (drop (a .self .at) (a .s .now)) = rw
+    (not-false (args .self .ok) (if1 .left), here (a .s .now) (a .self .at) (if2 .left)) refl in
+    rw e (numbers-in .ensures)
 
 pub set-into-spec : {M : Type 1} → statement M
 set-into-spec = tie.close (tie.spec returns returns-2 numbers-in-requires same-length returns-3)

@@ -46,26 +46,38 @@ same-length c = search needs
 
 returns : tie.Need-returns
 returns c =
-    let a = c .before .before .before .before .before .before .before .before .before .before .before .before .before .before .args in
-    let p = c .before .before .before .before .before .before .before .before .pair in
-    let k = c .before .before .before .before .before .before .key in
-    let l = c .before .before .before .before .set in
+    let args = c .before .before .before .before .before .before .before .before .before .before .before .before .before .before .args in
+    let start = c .before .before .before .before .before .before .before .before .before .before .before .start in
+    let pair = c .before .before .before .before .before .before .before .before .pair in
+    let key = c .before .before .before .before .before .before .key in
+    let set = c .before .before .before .before .set in
+    let a = args in
+    let p = pair in
+    let k = key in
+    let l = set in
     let n = length (a .room .now) in
-    given-as n _ _ (set-is (a .s .now) (c .before .before .before .before .before .before .before .before .before .before .before .start .result) (c .before .before .before .before .before .before .before .before .before .before .before .start .ensures) (bytes "op=ack reader=") (bytes " base=") (bytes " set=") (p .result) (k .result) (λ (x : ℕ). x) op-ack n (p .ensures) (k .ensures))
-    (set-not n (l .result) _ (op-ack (p .result .first) (p .result .second)) (Ack (p .result .first) (p .result .second)) (λ (x : List ℕ). refl) (λ (x : List ℕ). refl) (setOf n (p .result .second) (restOf (a .s .now) (k .result))) (l .ensures) (not-true (c .before .before .before .before .set .result .ok) (c .if1 .taken)))
+    given-as n _ _ (set-is (a .s .now) (start .result) (start .ensures) (bytes "op=ack reader=") (bytes " base=") (bytes " set=") (p .result) (k .result) (λ (x : ℕ). x) op-ack n (p .ensures) (k .ensures))
+    (set-not n (l .result) _ (op-ack (p .result .first) (p .result .second)) (Ack (p .result .first) (p .result .second)) (λ (x : List ℕ). refl) (λ (x : List ℕ). refl)
+    (setOf n (p .result .second) (restOf (a .s .now) (k .result))) (l .ensures) (not-true (set .result .ok) (c .if1 .taken)))
 
 same-length-2 : tie.Need-same-length-2
 same-length-2 c = search needs
 
 returns-2 : tie.Need-returns-2
 returns-2 c =
-    let a = c .before .before .before .before .before .before .before .before .before .before .before .before .before .before .args in
-    let p = c .before .before .before .before .before .before .before .before .pair in
-    let k = c .before .before .before .before .before .before .key in
-    let l = c .before .before .before .before .set in
+    let args = c .before .before .before .before .before .before .before .before .before .before .before .before .before .before .args in
+    let start = c .before .before .before .before .before .before .before .before .before .before .before .start in
+    let pair = c .before .before .before .before .before .before .before .before .pair in
+    let key = c .before .before .before .before .before .before .key in
+    let set = c .before .before .before .before .set in
+    let a = args in
+    let p = pair in
+    let k = key in
+    let l = set in
     let n = length (a .room .now) in
-    given-as n _ _ (set-is (a .s .now) (c .before .before .before .before .before .before .before .before .before .before .before .start .result) (c .before .before .before .before .before .before .before .before .before .before .before .start .ensures) (bytes "op=ack reader=") (bytes " base=") (bytes " set=") (p .result) (k .result) (λ (x : ℕ). x) op-ack n (p .ensures) (k .ensures))
-    (set-said n (l .result) _ (op-ack (p .result .first) (p .result .second)) (Ack (p .result .first) (p .result .second)) (λ (x : List ℕ). refl) (λ (x : List ℕ). refl) (setOf n (p .result .second) (restOf (a .s .now) (k .result))) (l .ensures) (not-false (c .before .before .before .before .set .result .ok) (c .if1 .left)))
+    given-as n _ _ (set-is (a .s .now) (start .result) (start .ensures) (bytes "op=ack reader=") (bytes " base=") (bytes " set=") (p .result) (k .result) (λ (x : ℕ). x) op-ack n (p .ensures) (k .ensures))
+    (set-said n (l .result) _ (op-ack (p .result .first) (p .result .second)) (Ack (p .result .first) (p .result .second)) (λ (x : List ℕ). refl) (λ (x : List ℕ). refl)
+    (setOf n (p .result .second) (restOf (a .s .now) (k .result))) (l .ensures) (not-false (set .result .ok) (c .if1 .left)))
 
 pub ack-line-spec : {M : Type 1} → statement M
 ack-line-spec =

@@ -39,15 +39,27 @@ ends-requires c κs = search needs
 
 returns : tie.Need-returns
 returns c =
-    let p = c .before .before .before .before .before .pair in
-    let u = c .before .before .pair2 in
-    ap commandOf (ap (λ (x : Bool). cond x (op-new (p .result .first) (p .result .second) (u .result .first) (u .result .second)) unknown) (sym (c .if1 .taken)) ∙ four-is (c .before .before .before .before .before .before .before .before .before .before .args .s .now) (c .before .before .before .before .before .before .before .before .start .result) (c .before .before .before .before .before .before .before .before .start .ensures) (bytes "op=new window=") (bytes " backlog=") (bytes " retain=") (bytes " slots=") (p .result) (u .result) op-new (c .before .ends .result) (p .ensures) (u .ensures) (c .before .ends .ensures))
+    let args = c .before .before .before .before .before .before .before .before .before .before .args in
+    let start = c .before .before .before .before .before .before .before .before .start in
+    let pair = c .before .before .before .before .before .pair in
+    let pair2 = c .before .before .pair2 in
+    let ends = c .before .ends in
+    let p = pair in
+    let u = pair2 in
+    ap commandOf (ap (λ (x : Bool). cond x (op-new (p .result .first) (p .result .second) (u .result .first) (u .result .second)) unknown) (sym (c .if1 .taken)) ∙ four-is (args .s .now) (start .result) (start .ensures)
+    (bytes "op=new window=") (bytes " backlog=") (bytes " retain=") (bytes " slots=") (p .result) (u .result) op-new (ends .result) (p .ensures) (u .ensures) (ends .ensures))
 
 returns-2 : tie.Need-returns-2
 returns-2 c =
-    let p = c .before .before .before .before .before .pair in
-    let u = c .before .before .pair2 in
-    ap commandOf (ap (λ (x : Bool). cond x (op-new (p .result .first) (p .result .second) (u .result .first) (u .result .second)) unknown) (sym (c .if1 .left)) ∙ four-is (c .before .before .before .before .before .before .before .before .before .before .args .s .now) (c .before .before .before .before .before .before .before .before .start .result) (c .before .before .before .before .before .before .before .before .start .ensures) (bytes "op=new window=") (bytes " backlog=") (bytes " retain=") (bytes " slots=") (p .result) (u .result) op-new (c .before .ends .result) (p .ensures) (u .ensures) (c .before .ends .ensures))
+    let args = c .before .before .before .before .before .before .before .before .before .before .args in
+    let start = c .before .before .before .before .before .before .before .before .start in
+    let pair = c .before .before .before .before .before .pair in
+    let pair2 = c .before .before .pair2 in
+    let ends = c .before .ends in
+    let p = pair in
+    let u = pair2 in
+    ap commandOf (ap (λ (x : Bool). cond x (op-new (p .result .first) (p .result .second) (u .result .first) (u .result .second)) unknown) (sym (c .if1 .left)) ∙ four-is (args .s .now) (start .result) (start .ensures)
+    (bytes "op=new window=") (bytes " backlog=") (bytes " retain=") (bytes " slots=") (p .result) (u .result) op-new (ends .result) (p .ensures) (u .ensures) (ends .ensures))
 
 pub new-line-spec : {M : Type 1} → statement M
 new-line-spec =

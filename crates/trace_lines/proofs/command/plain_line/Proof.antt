@@ -53,14 +53,23 @@ is-known-requires-3 c κs = search needs
 
 returns-3 : tie.Need-returns-3
 returns-3 c =
-    let s = c .before .before .before .before .before .before .before .before .before .before .args .s .now in
+    let args = c .before .before .before .before .before .before .before .before .before .before .args in
+    let new-line = c .before .before .before .before .before .before .before .before .new-line in
+    let is-known = c .before .before .before .before .before .before .before .is-known in
+    let if1 = c .before .before .before .before .before .before .if1 in
+    let match-line = c .before .before .before .before .before .match-line in
+    let is-known2 = c .before .before .before .before .is-known2 in
+    let if2 = c .before .before .before .if2 in
+    let write-line = c .before .before .write-line in
+    let is-known3 = c .before .is-known3 in
+    let s = args .s .now in
     let y3 = orElse (sentOf s) (evictOf s) in
     let y2 = orElse (writeOf s) y3 in
     let y1 = orElse (matchOf s) y2 in
-    let e2 = first-is (writeOf s) (y3) (c .before .before .write-line .result) (c .before .is-known3 .result) (c .before .before .write-line .ensures) (c .before .is-known3 .ensures) (c .if3 .taken) in
-    let e1 = first-not (matchOf s) (y2) (c .before .before .before .before .before .match-line .result) (c .before .before .before .before .is-known2 .result) (c .before .before .before .before .before .match-line .ensures) (c .before .before .before .before .is-known2 .ensures) (c .before .before .before .if2 .left) in
-    let e0 = first-not (newOf s) (y1) (c .before .before .before .before .before .before .before .before .new-line .result) (c .before .before .before .before .before .before .before .is-known .result) (c .before .before .before .before .before .before .before .before .new-line .ensures) (c .before .before .before .before .before .before .before .is-known .ensures) (c .before .before .before .before .before .before .if1 .left) in
-    c .before .before .write-line .ensures ∙ ap commandOf (e2 ∙ e1 ∙ e0)
+    let e2 = first-is (writeOf s) (y3) (write-line .result) (is-known3 .result) (write-line .ensures) (is-known3 .ensures) (c .if3 .taken) in
+    let e1 = first-not (matchOf s) (y2) (match-line .result) (is-known2 .result) (match-line .ensures) (is-known2 .ensures) (if2 .left) in
+    let e0 = first-not (newOf s) (y1) (new-line .result) (is-known .result) (new-line .ensures) (is-known .ensures) (if1 .left) in
+    write-line .ensures ∙ ap commandOf (e2 ∙ e1 ∙ e0)
 
 sent-line-requires : tie.Need-sent-line-requires
 sent-line-requires c κs = search needs
@@ -70,29 +79,54 @@ is-known-requires-4 c κs = search needs
 
 returns-4 : tie.Need-returns-4
 returns-4 c =
-    let s = c .before .before .before .before .before .before .before .before .before .before .before .before .before .args .s .now in
+    let args = c .before .before .before .before .before .before .before .before .before .before .before .before .before .args in
+    let new-line = c .before .before .before .before .before .before .before .before .before .before .before .new-line in
+    let is-known = c .before .before .before .before .before .before .before .before .before .before .is-known in
+    let if1 = c .before .before .before .before .before .before .before .before .before .if1 in
+    let match-line = c .before .before .before .before .before .before .before .before .match-line in
+    let is-known2 = c .before .before .before .before .before .before .before .is-known2 in
+    let if2 = c .before .before .before .before .before .before .if2 in
+    let write-line = c .before .before .before .before .before .write-line in
+    let is-known3 = c .before .before .before .before .is-known3 in
+    let if3 = c .before .before .before .if3 in
+    let sent-line = c .before .before .sent-line in
+    let is-known4 = c .before .is-known4 in
+    let s = args .s .now in
     let y3 = orElse (sentOf s) (evictOf s) in
     let y2 = orElse (writeOf s) y3 in
     let y1 = orElse (matchOf s) y2 in
-    let e3 = first-is (sentOf s) (evictOf s) (c .before .before .sent-line .result) (c .before .is-known4 .result) (c .before .before .sent-line .ensures) (c .before .is-known4 .ensures) (c .if4 .taken) in
-    let e2 = first-not (writeOf s) (y3) (c .before .before .before .before .before .write-line .result) (c .before .before .before .before .is-known3 .result) (c .before .before .before .before .before .write-line .ensures) (c .before .before .before .before .is-known3 .ensures) (c .before .before .before .if3 .left) in
-    let e1 = first-not (matchOf s) (y2) (c .before .before .before .before .before .before .before .before .match-line .result) (c .before .before .before .before .before .before .before .is-known2 .result) (c .before .before .before .before .before .before .before .before .match-line .ensures) (c .before .before .before .before .before .before .before .is-known2 .ensures) (c .before .before .before .before .before .before .if2 .left) in
-    let e0 = first-not (newOf s) (y1) (c .before .before .before .before .before .before .before .before .before .before .before .new-line .result) (c .before .before .before .before .before .before .before .before .before .before .is-known .result) (c .before .before .before .before .before .before .before .before .before .before .before .new-line .ensures) (c .before .before .before .before .before .before .before .before .before .before .is-known .ensures) (c .before .before .before .before .before .before .before .before .before .if1 .left) in
-    c .before .before .sent-line .ensures ∙ ap commandOf (e3 ∙ e2 ∙ e1 ∙ e0)
+    let e3 = first-is (sentOf s) (evictOf s) (sent-line .result) (is-known4 .result) (sent-line .ensures) (is-known4 .ensures) (c .if4 .taken) in
+    let e2 = first-not (writeOf s) (y3) (write-line .result) (is-known3 .result) (write-line .ensures) (is-known3 .ensures) (if3 .left) in
+    let e1 = first-not (matchOf s) (y2) (match-line .result) (is-known2 .result) (match-line .ensures) (is-known2 .ensures) (if2 .left) in
+    let e0 = first-not (newOf s) (y1) (new-line .result) (is-known .result) (new-line .ensures) (is-known .ensures) (if1 .left) in
+    sent-line .ensures ∙ ap commandOf (e3 ∙ e2 ∙ e1 ∙ e0)
 
 evict-line-requires : tie.Need-evict-line-requires
 evict-line-requires c κs = search needs
 
 returns-5 : tie.Need-returns-5
 returns-5 c =
-    let s = c .before .before .before .before .before .before .before .before .before .before .before .before .before .before .args .s .now in
+    let args = c .before .before .before .before .before .before .before .before .before .before .before .before .before .before .args in
+    let new-line = c .before .before .before .before .before .before .before .before .before .before .before .before .new-line in
+    let is-known = c .before .before .before .before .before .before .before .before .before .before .before .is-known in
+    let if1 = c .before .before .before .before .before .before .before .before .before .before .if1 in
+    let match-line = c .before .before .before .before .before .before .before .before .before .match-line in
+    let is-known2 = c .before .before .before .before .before .before .before .before .is-known2 in
+    let if2 = c .before .before .before .before .before .before .before .if2 in
+    let write-line = c .before .before .before .before .before .before .write-line in
+    let is-known3 = c .before .before .before .before .before .is-known3 in
+    let if3 = c .before .before .before .before .if3 in
+    let sent-line = c .before .before .before .sent-line in
+    let is-known4 = c .before .before .is-known4 in
+    let if4 = c .before .if4 in
+    let s = args .s .now in
     let y3 = orElse (sentOf s) (evictOf s) in
     let y2 = orElse (writeOf s) y3 in
     let y1 = orElse (matchOf s) y2 in
-    let e3 = first-not (sentOf s) (evictOf s) (c .before .before .before .sent-line .result) (c .before .before .is-known4 .result) (c .before .before .before .sent-line .ensures) (c .before .before .is-known4 .ensures) (c .before .if4 .left) in
-    let e2 = first-not (writeOf s) (y3) (c .before .before .before .before .before .before .write-line .result) (c .before .before .before .before .before .is-known3 .result) (c .before .before .before .before .before .before .write-line .ensures) (c .before .before .before .before .before .is-known3 .ensures) (c .before .before .before .before .if3 .left) in
-    let e1 = first-not (matchOf s) (y2) (c .before .before .before .before .before .before .before .before .before .match-line .result) (c .before .before .before .before .before .before .before .before .is-known2 .result) (c .before .before .before .before .before .before .before .before .before .match-line .ensures) (c .before .before .before .before .before .before .before .before .is-known2 .ensures) (c .before .before .before .before .before .before .before .if2 .left) in
-    let e0 = first-not (newOf s) (y1) (c .before .before .before .before .before .before .before .before .before .before .before .before .new-line .result) (c .before .before .before .before .before .before .before .before .before .before .before .is-known .result) (c .before .before .before .before .before .before .before .before .before .before .before .before .new-line .ensures) (c .before .before .before .before .before .before .before .before .before .before .before .is-known .ensures) (c .before .before .before .before .before .before .before .before .before .before .if1 .left) in
+    let e3 = first-not (sentOf s) (evictOf s) (sent-line .result) (is-known4 .result) (sent-line .ensures) (is-known4 .ensures) (if4 .left) in
+    let e2 = first-not (writeOf s) (y3) (write-line .result) (is-known3 .result) (write-line .ensures) (is-known3 .ensures) (if3 .left) in
+    let e1 = first-not (matchOf s) (y2) (match-line .result) (is-known2 .result) (match-line .ensures) (is-known2 .ensures) (if2 .left) in
+    let e0 = first-not (newOf s) (y1) (new-line .result) (is-known .result) (new-line .ensures) (is-known .ensures) (if1 .left) in
     c .evict-line .ensures ∙ ap commandOf (refl ∙ e3 ∙ e2 ∙ e1 ∙ e0)
 
 pub plain-line-spec : {M : Type 1} → statement M

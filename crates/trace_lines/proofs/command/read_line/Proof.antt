@@ -79,16 +79,25 @@ same-length-4 c = search needs
 
 returns-4 : tie.Need-returns-4
 returns-4 c =
-    let a = c .before .before .before .before .before .before .before .before .before .before .before .before .before .before .before .before .args in
+    let args = c .before .before .before .before .before .before .before .before .before .before .before .before .before .before .before .before .args in
+    let if1 = c .before .before .before .before .before .before .before .before .before .before .before .before .before .if1 in
+    let plain-line = c .before .before .before .before .before .before .before .before .before .before .before .before .plain-line in
+    let is-known = c .before .before .before .before .before .before .before .before .before .before .before .is-known in
+    let if2 = c .before .before .before .before .before .before .before .before .before .before .if2 in
+    let ack-line = c .before .before .before .before .before .before .before .before .ack-line in
+    let is-known2 = c .before .before .before .before .before .is-known2 in
+    let if3 = c .before .before .before .before .if3 in
+    let frag-line = c .before .before .frag-line in
+    let a = args in
     let s = a .s .now in
     let n = length (a .room .now) in
-    let p = c .before .before .before .before .before .before .before .before .before .before .before .before .plain-line in
-    let k = c .before .before .before .before .before .before .before .before .before .before .before .is-known in
-    let q = c .before .before .before .before .before .before .before .before .ack-line in
-    let o = c .before .before .before .before .before .is-known2 in
-    let e = first-not (plainOf s) (orElse (ackOf n s) (fragOf n s)) (p .result) (k .result) (p .ensures) (k .ensures) (c .before .before .before .before .before .before .before .before .before .before .if2 .left) ∙ short-is n s (c .before .before .before .before .before .before .before .before .before .before .before .before .before .if1 .left) in
-    let f = first-not (ackOf n s) (fragOf n s) (q .result) (o .result) (q .ensures .result) (o .ensures) (c .before .before .before .before .if3 .left) in
-    given-as n (fragOf n s) (said n s) (f ∙ e) (subst (λ (m : ℕ). Gives1 (c .before .before .frag-line .result) (c .before .before .frag-line .last .1 .0) (answered m (fragOf m s))) (q .kept .1 .0) (c .before .before .frag-line .ensures))
+    let p = plain-line in
+    let k = is-known in
+    let q = ack-line in
+    let o = is-known2 in
+    let e = first-not (plainOf s) (orElse (ackOf n s) (fragOf n s)) (p .result) (k .result) (p .ensures) (k .ensures) (if2 .left) ∙ short-is n s (if1 .left) in
+    let f = first-not (ackOf n s) (fragOf n s) (q .result) (o .result) (q .ensures .result) (o .ensures) (if3 .left) in
+    given-as n (fragOf n s) (said n s) (f ∙ e) (subst (λ (m : ℕ). Gives1 (frag-line .result) (frag-line .last .1 .0) (answered m (fragOf m s))) (q .kept .1 .0) (frag-line .ensures))
 
 pub read-line-spec : {M : Type 1} → statement M
 read-line-spec =

@@ -30,13 +30,23 @@ ends-requires c κs = search needs
 
 returns : tie.Need-returns
 returns c =
-    let p = c .before .before .pair in
-    ap commandOf (ap (λ (x : Bool). cond x (op-sent (p .result .first) (p .result .second)) unknown) (sym (c .if1 .taken)) ∙ two-is (c .before .before .before .before .before .before .before .args .s .now) (c .before .before .before .before .before .start .result) (c .before .before .before .before .before .start .ensures) (bytes "op=sent reader=") (bytes " seq=") (p .result) op-sent (c .before .ends .result) (p .ensures) (c .before .ends .ensures))
+    let args = c .before .before .before .before .before .before .before .args in
+    let start = c .before .before .before .before .before .start in
+    let pair = c .before .before .pair in
+    let ends = c .before .ends in
+    let p = pair in
+    ap commandOf (ap (λ (x : Bool). cond x (op-sent (p .result .first) (p .result .second)) unknown) (sym (c .if1 .taken)) ∙ two-is (args .s .now) (start .result) (start .ensures) (bytes "op=sent reader=")
+    (bytes " seq=") (p .result) op-sent (ends .result) (p .ensures) (ends .ensures))
 
 returns-2 : tie.Need-returns-2
 returns-2 c =
-    let p = c .before .before .pair in
-    ap commandOf (ap (λ (x : Bool). cond x (op-sent (p .result .first) (p .result .second)) unknown) (sym (c .if1 .left)) ∙ two-is (c .before .before .before .before .before .before .before .args .s .now) (c .before .before .before .before .before .start .result) (c .before .before .before .before .before .start .ensures) (bytes "op=sent reader=") (bytes " seq=") (p .result) op-sent (c .before .ends .result) (p .ensures) (c .before .ends .ensures))
+    let args = c .before .before .before .before .before .before .before .args in
+    let start = c .before .before .before .before .before .start in
+    let pair = c .before .before .pair in
+    let ends = c .before .ends in
+    let p = pair in
+    ap commandOf (ap (λ (x : Bool). cond x (op-sent (p .result .first) (p .result .second)) unknown) (sym (c .if1 .left)) ∙ two-is (args .s .now) (start .result) (start .ensures) (bytes "op=sent reader=") (bytes " seq=")
+    (p .result) op-sent (ends .result) (p .ensures) (ends .ensures))
 
 pub sent-line-spec : {M : Type 1} → statement M
 sent-line-spec =

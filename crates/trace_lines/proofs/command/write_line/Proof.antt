@@ -27,15 +27,25 @@ ends-requires c κs = search needs
 
 returns : tie.Need-returns
 returns c =
-    let a = c .before .before .before .before .before .before .args .s .now in
-    let f = c .before .before .field in
-    ap commandOf (ap (λ (x : Bool). cond x (op-write (f .result .value)) unknown) (sym (c .if1 .taken)) ∙ one-is a (c .before .before .before .before .start .result) (c .before .before .before .before .start .ensures) (bytes "op=write len=") (f .result) op-write (c .before .ends .result) (f .ensures .is) (c .before .ends .ensures))
+    let args = c .before .before .before .before .before .before .args in
+    let start = c .before .before .before .before .start in
+    let field = c .before .before .field in
+    let ends = c .before .ends in
+    let a = args .s .now in
+    let f = field in
+    ap commandOf (ap (λ (x : Bool). cond x (op-write (f .result .value)) unknown) (sym (c .if1 .taken)) ∙ one-is a (start .result) (start .ensures) (bytes "op=write len=") (f .result) op-write (ends .result)
+    (f .ensures .is) (ends .ensures))
 
 returns-2 : tie.Need-returns-2
 returns-2 c =
-    let a = c .before .before .before .before .before .before .args .s .now in
-    let f = c .before .before .field in
-    ap commandOf (ap (λ (x : Bool). cond x (op-write (f .result .value)) unknown) (sym (c .if1 .left)) ∙ one-is a (c .before .before .before .before .start .result) (c .before .before .before .before .start .ensures) (bytes "op=write len=") (f .result) op-write (c .before .ends .result) (f .ensures .is) (c .before .ends .ensures))
+    let args = c .before .before .before .before .before .before .args in
+    let start = c .before .before .before .before .start in
+    let field = c .before .before .field in
+    let ends = c .before .ends in
+    let a = args .s .now in
+    let f = field in
+    ap commandOf (ap (λ (x : Bool). cond x (op-write (f .result .value)) unknown) (sym (c .if1 .left)) ∙ one-is a (start .result) (start .ensures) (bytes "op=write len=") (f .result) op-write (ends .result)
+    (f .ensures .is) (ends .ensures))
 
 pub write-line-spec : {M : Type 1} → statement M
 write-line-spec =

@@ -16,10 +16,10 @@ use Rattle.trace_lines.proofs.set.numbers_in.Statement.{statement}
 use Rattle.trace_lines.proofs.set.numbers_in.Tie as tie
 
 abbrev Inv-loop : tie.InvT-loop
-Inv-loop s at least room₀ i₀ m₀ n₀ room i m n = (n ≤ length room₀) × (length room ≡ length room₀) × (listedIn (length room₀) least (drop at s) ≡ prefixed (take n room) (listedIn (length room₀ - n) m (drop i s)))
+Inv-loop s at least room₀ unlisted i₀ m₀ n₀ room i m n = (n ≤ length room₀) × (length room ≡ length room₀) × (listedIn (length room₀) least (drop at s) ≡ prefixed (take n room) (listedIn (length room₀ - n) m (drop i s)))
 
 abbrev μ-loop : tie.MeasureT-loop
-μ-loop s at least room₀ i₀ m₀ n₀ room i m n = length room₀ - n
+μ-loop s at least room₀ unlisted i₀ m₀ n₀ room i m n = length room₀ - n
 
 loop-holds : tie.Need-loop-holds Inv-loop μ-loop
 loop-holds c = (omega arith, refl, rw sub-zero (sym (prefixed-none _)))
@@ -71,17 +71,24 @@ same-length-3 c = length-set (c .before .before .before .before .before .before 
 
 returns-3 : tie.Need-returns-3 Inv-loop μ-loop
 returns-3 c =
-    let a = c .before .before .before .before .before .before .before .before .before .before .args in
+    let args = c .before .before .before .before .before .before .before .before .before .before .args in
+    let loop = c .before .before .before .before .before .before .before .loop in
+    let loop-test = c .before .before .before .before .before .before .loop-test in
+    let number = c .before .before .before .before .before .number in
+    let if1 = c .before .before .if1 in
+    let if2 = c .before .if2 in
+    let a = args in
     let s = a .s .now in
-    let l = c .before .before .before .before .before .before .before .loop in
-    let d = c .before .before .before .before .before .number .result in
-    let is = c .before .before .before .before .before .number .ensures .is in
+    let l = loop in
+    let d = number .result in
+    let is = number .ensures .is in
     let big = length (a .room .now) in
-    let q : big - l .n ≡ suc (big - (l .n + 1)) = omega (arith, c .before .before .before .before .before .before .loop-test .taken) in
+    let q : big - l .n ≡ suc (big - (l .n + 1)) = omega (arith, loop-test .taken) in
     let one = l .inv .2 ∙ ap (λ (x : ℕ). prefixed (take (l .n) (l .room)) (listedIn x (l .m) (drop (l .i) s))) q in
     let room = set (l .room) (l .n) (d .value) in
     let g : l .n < length (l .room) = omega arith in
-    some-listed _ big (l .n + 1) room (one ∙ ap (prefixed (take (l .n) (l .room))) (list-end s (l .i) (l .m) (big - (l .n + 1)) d is (not-false (d .next .ok) (c .before .before .if1 .left)) (c .before .if2 .left) (c .if3 .taken)) ∙ prefixed-more (l .room) (l .n) (d .value) (these []) g ∙ ap these (append-nil (take (l .n + 1) room))) (rw length-set (omega arith)) (omega arith)
+    some-listed _ big (l .n + 1) room (one ∙ ap (prefixed (take (l .n) (l .room))) (list-end s (l .i) (l .m) (big - (l .n + 1)) d is (not-false (d .next .ok) (if1 .left)) (if2 .left) (c .if3 .taken)) ∙ prefixed-more
+    (l .room) (l .n) (d .value) (these []) g ∙ ap these (append-nil (take (l .n + 1) room))) (rw length-set (omega arith)) (omega arith)
 
 shared-slice-read-if4 : tie.Need-shared-slice-read-if4 Inv-loop μ-loop
 shared-slice-read-if4 c = omega arith
@@ -112,16 +119,28 @@ loop-less c = omega arith
 
 loop-again : tie.Need-loop-again Inv-loop μ-loop
 loop-again c =
-    let a = c .before .before .before .before .before .before .before .before .before .before .before .before .args in
+    let args = c .before .before .before .before .before .before .before .before .before .before .before .before .args in
+    let loop = c .before .before .before .before .before .before .before .before .before .loop in
+    let loop-test = c .before .before .before .before .before .before .before .before .loop-test in
+    let number = c .before .before .before .before .before .before .before .number in
+    let if1 = c .before .before .before .before .if1 in
+    let if2 = c .before .before .before .if2 in
+    let if3 = c .before .before .if3 in
+    let a = args in
     let s = a .s .now in
-    let l = c .before .before .before .before .before .before .before .before .before .loop in
-    let d = c .before .before .before .before .before .before .before .number .result in
-    let is = c .before .before .before .before .before .before .before .number .ensures .is in
+    let l = loop in
+    let d = number .result in
+    let is = number .ensures .is in
     let big = length (a .room .now) in
-    let q : big - l .n ≡ suc (big - (l .n + 1)) = omega (arith, c .before .before .before .before .before .before .before .before .loop-test .taken) in
+    let q : big - l .n ≡ suc (big - (l .n + 1)) = omega (arith, loop-test .taken) in
     let one = l .inv .2 ∙ ap (λ (x : ℕ). prefixed (take (l .n) (l .room)) (listedIn x (l .m) (drop (l .i) s))) q in
-    let g : l .n < length (l .room) = omega arith in
-    (omega arith, length-set (l .room) (l .n) (d .value) ∙ l .inv .1, one ∙ ap (prefixed (take (l .n) (l .room))) (list-more s (l .i) (l .m) (big - (l .n + 1)) d is (not-false (d .next .ok) (c .before .before .before .before .if1 .left)) (c .before .before .before .if2 .left) (c .before .before .if3 .left) (c .if4 .left)) ∙ prefixed-more (l .room) (l .n) (d .value) (listedIn (big - (l .n + 1)) (d .value + 1) (drop (d .next .at + 1) s)) g)
+    let g : l .n < length (l .room) = omega arith in (
+      omega arith,
+      length-set (l .room) (l .n) (d .value) ∙ l .inv .1,
+      one ∙ ap (prefixed (take (l .n) (l .room)))
+          (list-more s (l .i) (l .m) (big - (l .n + 1)) d is (not-false (d .next .ok) (if1 .left)) (if2 .left) (if3 .left) (c .if4 .left)) ∙ prefixed-more (l .room) (l .n) (d .value)
+          (listedIn (big - (l .n + 1)) (d .value + 1) (drop (d .next .at + 1) s)) g,
+    )
 
 same-length-5 : tie.Need-same-length-5 Inv-loop μ-loop
 same-length-5 c = c .before .loop .inv .1

@@ -8,7 +8,7 @@ use native.Mathlib.Omega.{arith}
 use lib.ListN.{length, take, drop, getD, set}
 use borrow.Author.Tests.{lt-ltb, le-ltb, eq-eqb, ne-eqb}
 use Rattle.numbers.specs.Promise.{Left1, Left2, Left3, Gives1, Gives2, Gives3}
-use Rattle.trace_run.specs.State.{begun, refusedBy, incoherent, notUnderstood, withFlow, readerIn, withReader}
+use Rattle.trace_readers.specs.State.{begun, refusedBy, incoherent, notUnderstood, withFlow, readerIn, withReader}
 use Rattle.trace_run.proofs.WriteLaws.{not-told, is-told, told-both, admit-part, write-refused, admit-refused, write-done, write-store, write-large, write-line}
 use Rattle.trace_run.specs.Writes.{bothOk}
 use borrow.Author.Needs.{needs}
@@ -56,7 +56,11 @@ same-length-2 : tie.Need-same-length-2
 same-length-2 c = search needs
 
 returns : tie.Need-returns
-returns c = admit-part (c .before .before .before .before .before .before .before .before .before .before .before .args .flow) (c .before .before .before .before .before .before .before .before .before .before .before .args .payload .now) (c .before .before .before .before .before .before .before .before .before .before .before .args .store .now) (c .before .before .before .before .before .before .before .before .before .before .before .args .large .now) (c .before .before .before .before .before .before .before .slots-in .result) (c .before .before .before .before .before .before .before .slots-in .ensures .0) (c .before .before .before .before .with-sample .result) (c .before .before .before .before .with-sample .last .1 .0) (c .before .before .before .before .with-sample .last .1 .1 .0) (c .before .before .before .before .with-sample .ensures)
+returns c =
+    let args = c .before .before .before .before .before .before .before .before .before .before .before .args in
+    let slots-in = c .before .before .before .before .before .before .before .slots-in in
+    let with-sample = c .before .before .before .before .with-sample in
+    admit-part (args .flow) (args .payload .now) (args .store .now) (args .large .now) (slots-in .result) (slots-in .ensures .0) (with-sample .result) (with-sample .last .1 .0) (with-sample .last .1 .1 .0) (with-sample .ensures)
 
 pub admitted-in-spec : {M : Type 1} → statement M
 admitted-in-spec =

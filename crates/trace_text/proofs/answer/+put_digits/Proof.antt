@@ -82,7 +82,12 @@ put-digits-returns-2 : (t : ℕ) → put-digits-lts.Need-returns-2 (
   put-digits-below t,
   put-digits.Post,
 ) (put-digits-at t) put-digits.Post
-put-digits-returns-2 t c = put-as (c .before .before .before .before .before .before .before .before .args .at) (c .before .before .before .before .before .before .before .before .args .out .now) (c .before .before .before .digit .result ∷ []) _ (ap (λ (x : ℕ). x ∷ []) (c .before .before .before .digit .ensures) ∙ sym (digits-one (c .before .before .before .before .before .before .before .before .args .most) (c .before .before .before .before .before .before .before .before .args .n) (omega arith) (c .before .before .before .before .before .if2 .taken))) (c .before .before .put-byte .ensures)
+put-digits-returns-2 t c =
+    let args = c .before .before .before .before .before .before .before .before .args in
+    let if2 = c .before .before .before .before .before .if2 in
+    let digit = c .before .before .before .digit in
+    let put-byte = c .before .before .put-byte in
+    put-as (args .at) (args .out .now) (digit .result ∷ []) _ (ap (λ (x : ℕ). x ∷ []) (digit .ensures) ∙ sym (digits-one (args .most) (args .n) (omega arith) (if2 .taken))) (put-byte .ensures)
 
 put-digits-sub-put-digits : (t : ℕ) → put-digits-lts.Need-sub-put-digits (
   digit-reads.Asked,
@@ -142,7 +147,15 @@ put-digits-returns-3 : (t : ℕ) → put-digits-lts.Need-returns-3 (
   put-digits-below t,
   put-digits.Post,
 ) (put-digits-at t) put-digits.Post
-put-digits-returns-3 t c = put-as (c .before .before .before .before .before .before .before .before .before .before .before .before .args .at) (c .before .before .before .before .before .before .before .before .before .before .before .before .args .out .now) (digits (c .before .before .before .before .before .before .before .before .before .before .before .before .args .most - 1) (c .before .before .before .before .before .before .before .before .before .before .before .before .args .n / 10) ++ (c .before .before .before .digit2 .result ∷ [])) _ (ap (λ (x : ℕ). digits (c .before .before .before .before .before .before .before .before .before .before .before .before .args .most - 1) (c .before .before .before .before .before .before .before .before .before .before .before .before .args .n / 10) ++ (x ∷ [])) (c .before .before .before .digit2 .ensures) ∙ sym (digits-more (c .before .before .before .before .before .before .before .before .before .before .before .before .args .most) (c .before .before .before .before .before .before .before .before .before .before .before .before .args .n) (omega arith) (c .before .before .before .before .before .before .before .before .before .if2 .left))) (puts (c .before .before .before .before .before .before .before .before .before .before .before .before .args .at) (c .before .before .before .before .before .before .before .put-digits .result) (c .before .before .put-byte2 .result) (digits (c .before .before .before .before .before .before .before .before .before .before .before .before .args .most - 1) (c .before .before .before .before .before .before .before .before .before .before .before .before .args .n / 10)) (c .before .before .before .digit2 .result ∷ []) (c .before .before .before .before .before .before .before .before .before .before .before .before .args .out .now) (c .before .before .before .before .before .before .before .put-digits .last .0) (c .before .before .put-byte2 .last .0) (c .before .before .before .before .before .before .before .put-digits .ensures) (c .before .before .put-byte2 .ensures))
+put-digits-returns-3 t c =
+    let args = c .before .before .before .before .before .before .before .before .before .before .before .before .args in
+    let if2 = c .before .before .before .before .before .before .before .before .before .if2 in
+    let put-digits = c .before .before .before .before .before .before .before .put-digits in
+    let digit2 = c .before .before .before .digit2 in
+    let put-byte2 = c .before .before .put-byte2 in
+    put-as (args .at) (args .out .now) (digits (args .most - 1) (args .n / 10) ++ (digit2 .result ∷ [])) _
+    (ap (λ (x : ℕ). digits (args .most - 1) (args .n / 10) ++ (x ∷ [])) (digit2 .ensures) ∙ sym (digits-more (args .most) (args .n) (omega arith) (if2 .left)))
+    (puts (args .at) (put-digits .result) (put-byte2 .result) (digits (args .most - 1) (args .n / 10)) (digit2 .result ∷ []) (args .out .now) (put-digits .last .0) (put-byte2 .last .0) (put-digits .ensures) (put-byte2 .ensures))
 
 pub +put-digits-spec : {M : Type 1} → statement M
 +put-digits-spec = close μ-put-digits λ t. put-digits-lts.spec (

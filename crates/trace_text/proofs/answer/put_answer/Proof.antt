@@ -53,10 +53,34 @@ put-byte-requires : tie.Need-put-byte-requires
 put-byte-requires c κs = search needs
 
 same-length : tie.Need-same-length
-same-length c = c .before .before .put-byte .kept .0 ∙ c .before .before .before .before .before .before .put-field4 .kept .0 ∙ c .before .before .before .before .before .before .before .before .before .before .before .put-field3 .kept .0 ∙ c .before .before .before .before .before .before .before .before .before .before .before .before .before .before .before .before .put-field2 .kept .0 ∙ c .before .before .before .before .before .before .before .before .before .before .before .before .before .before .before .before .before .before .before .before .before .put-field .kept .0 ∙ c .before .before .before .before .before .before .before .before .before .before .before .before .before .before .before .before .before .before .before .before .before .before .before .before .before .before .put-number .kept .0
+same-length c =
+    let put-number = c .before .before .before .before .before .before .before .before .before .before .before .before .before .before .before .before .before .before .before .before .before .before .before .before .before .before .put-number in
+    let put-field = c .before .before .before .before .before .before .before .before .before .before .before .before .before .before .before .before .before .before .before .before .before .put-field in
+    let put-field2 = c .before .before .before .before .before .before .before .before .before .before .before .before .before .before .before .before .put-field2 in
+    let put-field3 = c .before .before .before .before .before .before .before .before .before .before .before .put-field3 in
+    let put-field4 = c .before .before .before .before .before .before .put-field4 in
+    let put-byte = c .before .before .put-byte in
+    put-byte .kept .0 ∙ put-field4 .kept .0 ∙ put-field3 .kept .0 ∙ put-field2 .kept .0 ∙ put-field .kept .0 ∙ put-number .kept .0
 
 returns : tie.Need-returns
-returns c = puts (c .before .before .before .before .before .before .before .before .before .before .before .before .before .before .before .before .before .before .before .before .before .before .before .before .before .before .before .before .before .args .at) (c .before .before .before .before .before .before .before .before .before .before .before .before .before .before .before .before .before .before .before .before .before .before .before .before .before .before .put-number .result) (c .before .before .put-byte .result) (decimal (c .before .before .before .before .before .before .before .before .before .before .before .before .before .before .before .before .before .before .before .before .before .before .before .before .before .before .before .before .before .args .line)) ((bytes " answer=" ++ decimal (c .before .before .before .before .before .before .before .before .before .before .before .before .before .before .before .before .before .before .before .before .before .before .before .before .before .before .before .before .before .args .answer)) ++ ((bytes " last=" ++ decimal (c .before .before .before .before .before .before .before .before .before .before .before .before .before .before .before .before .before .before .before .before .before .before .before .before .before .before .before .before .before .args .last)) ++ ((bytes " first=" ++ decimal (c .before .before .before .before .before .before .before .before .before .before .before .before .before .before .before .before .before .before .before .before .before .before .before .before .before .before .before .before .before .args .first)) ++ ((bytes " acked=" ++ decimal (c .before .before .before .before .before .before .before .before .before .before .before .before .before .before .before .before .before .before .before .before .before .before .before .before .before .before .before .before .before .args .acked)) ++ (10 ∷ []))))) (c .before .before .before .before .before .before .before .before .before .before .before .before .before .before .before .before .before .before .before .before .before .before .before .before .before .before .before .before .before .args .out .now) (c .before .before .before .before .before .before .before .before .before .before .before .before .before .before .before .before .before .before .before .before .before .before .before .before .before .before .put-number .last .0) (c .before .before .put-byte .last .0) (c .before .before .before .before .before .before .before .before .before .before .before .before .before .before .before .before .before .before .before .before .before .before .before .before .before .before .put-number .ensures) (puts (c .before .before .before .before .before .before .before .before .before .before .before .before .before .before .before .before .before .before .before .before .before .before .before .before .before .before .put-number .result) (c .before .before .before .before .before .before .before .before .before .before .before .before .before .before .before .before .before .before .before .before .before .put-field .result) (c .before .before .put-byte .result) (bytes " answer=" ++ decimal (c .before .before .before .before .before .before .before .before .before .before .before .before .before .before .before .before .before .before .before .before .before .before .before .before .before .before .before .before .before .args .answer)) ((bytes " last=" ++ decimal (c .before .before .before .before .before .before .before .before .before .before .before .before .before .before .before .before .before .before .before .before .before .before .before .before .before .before .before .before .before .args .last)) ++ ((bytes " first=" ++ decimal (c .before .before .before .before .before .before .before .before .before .before .before .before .before .before .before .before .before .before .before .before .before .before .before .before .before .before .before .before .before .args .first)) ++ ((bytes " acked=" ++ decimal (c .before .before .before .before .before .before .before .before .before .before .before .before .before .before .before .before .before .before .before .before .before .before .before .before .before .before .before .before .before .args .acked)) ++ (10 ∷ [])))) (c .before .before .before .before .before .before .before .before .before .before .before .before .before .before .before .before .before .before .before .before .before .before .before .before .before .before .put-number .last .0) (c .before .before .before .before .before .before .before .before .before .before .before .before .before .before .before .before .before .before .before .before .before .put-field .last .0) (c .before .before .put-byte .last .0) (c .before .before .before .before .before .before .before .before .before .before .before .before .before .before .before .before .before .before .before .before .before .put-field .ensures) (puts (c .before .before .before .before .before .before .before .before .before .before .before .before .before .before .before .before .before .before .before .before .before .put-field .result) (c .before .before .before .before .before .before .before .before .before .before .before .before .before .before .before .before .put-field2 .result) (c .before .before .put-byte .result) (bytes " last=" ++ decimal (c .before .before .before .before .before .before .before .before .before .before .before .before .before .before .before .before .before .before .before .before .before .before .before .before .before .before .before .before .before .args .last)) ((bytes " first=" ++ decimal (c .before .before .before .before .before .before .before .before .before .before .before .before .before .before .before .before .before .before .before .before .before .before .before .before .before .before .before .before .before .args .first)) ++ ((bytes " acked=" ++ decimal (c .before .before .before .before .before .before .before .before .before .before .before .before .before .before .before .before .before .before .before .before .before .before .before .before .before .before .before .before .before .args .acked)) ++ (10 ∷ []))) (c .before .before .before .before .before .before .before .before .before .before .before .before .before .before .before .before .before .before .before .before .before .put-field .last .0) (c .before .before .before .before .before .before .before .before .before .before .before .before .before .before .before .before .put-field2 .last .0) (c .before .before .put-byte .last .0) (c .before .before .before .before .before .before .before .before .before .before .before .before .before .before .before .before .put-field2 .ensures) (puts (c .before .before .before .before .before .before .before .before .before .before .before .before .before .before .before .before .put-field2 .result) (c .before .before .before .before .before .before .before .before .before .before .before .put-field3 .result) (c .before .before .put-byte .result) (bytes " first=" ++ decimal (c .before .before .before .before .before .before .before .before .before .before .before .before .before .before .before .before .before .before .before .before .before .before .before .before .before .before .before .before .before .args .first)) ((bytes " acked=" ++ decimal (c .before .before .before .before .before .before .before .before .before .before .before .before .before .before .before .before .before .before .before .before .before .before .before .before .before .before .before .before .before .args .acked)) ++ (10 ∷ [])) (c .before .before .before .before .before .before .before .before .before .before .before .before .before .before .before .before .put-field2 .last .0) (c .before .before .before .before .before .before .before .before .before .before .before .put-field3 .last .0) (c .before .before .put-byte .last .0) (c .before .before .before .before .before .before .before .before .before .before .before .put-field3 .ensures) (puts (c .before .before .before .before .before .before .before .before .before .before .before .put-field3 .result) (c .before .before .before .before .before .before .put-field4 .result) (c .before .before .put-byte .result) (bytes " acked=" ++ decimal (c .before .before .before .before .before .before .before .before .before .before .before .before .before .before .before .before .before .before .before .before .before .before .before .before .before .before .before .before .before .args .acked)) (10 ∷ []) (c .before .before .before .before .before .before .before .before .before .before .before .put-field3 .last .0) (c .before .before .before .before .before .before .put-field4 .last .0) (c .before .before .put-byte .last .0) (c .before .before .before .before .before .before .put-field4 .ensures) (c .before .before .put-byte .ensures)))))
+returns c =
+    let args = c .before .before .before .before .before .before .before .before .before .before .before .before .before .before .before .before .before .before .before .before .before .before .before .before .before .before .before .before .before .args in
+    let put-number = c .before .before .before .before .before .before .before .before .before .before .before .before .before .before .before .before .before .before .before .before .before .before .before .before .before .before .put-number in
+    let put-field = c .before .before .before .before .before .before .before .before .before .before .before .before .before .before .before .before .before .before .before .before .before .put-field in
+    let put-field2 = c .before .before .before .before .before .before .before .before .before .before .before .before .before .before .before .before .put-field2 in
+    let put-field3 = c .before .before .before .before .before .before .before .before .before .before .before .put-field3 in
+    let put-field4 = c .before .before .before .before .before .before .put-field4 in
+    let put-byte = c .before .before .put-byte in
+    puts (args .at) (put-number .result) (put-byte .result) (decimal (args .line))
+    ((bytes " answer=" ++ decimal (args .answer)) ++ ((bytes " last=" ++ decimal (args .last)) ++ ((bytes " first=" ++ decimal (args .first)) ++ ((bytes " acked=" ++ decimal (args .acked)) ++ (10 ∷ [])))))
+    (args .out .now) (put-number .last .0) (put-byte .last .0) (put-number .ensures)
+    (puts (put-number .result) (put-field .result) (put-byte .result) (bytes " answer=" ++ decimal (args .answer))
+    ((bytes " last=" ++ decimal (args .last)) ++ ((bytes " first=" ++ decimal (args .first)) ++ ((bytes " acked=" ++ decimal (args .acked)) ++ (10 ∷ [])))) (put-number .last .0) (put-field .last .0) (put-byte .last .0)
+    (put-field .ensures) (puts (put-field .result) (put-field2 .result) (put-byte .result) (bytes " last=" ++ decimal (args .last))
+    ((bytes " first=" ++ decimal (args .first)) ++ ((bytes " acked=" ++ decimal (args .acked)) ++ (10 ∷ []))) (put-field .last .0) (put-field2 .last .0) (put-byte .last .0) (put-field2 .ensures)
+    (puts (put-field2 .result) (put-field3 .result) (put-byte .result) (bytes " first=" ++ decimal (args .first)) ((bytes " acked=" ++ decimal (args .acked)) ++ (10 ∷ [])) (put-field2 .last .0) (put-field3 .last .0)
+    (put-byte .last .0) (put-field3 .ensures) (puts (put-field3 .result) (put-field4 .result) (put-byte .result) (bytes " acked=" ++ decimal (args .acked)) (10 ∷ []) (put-field3 .last .0) (put-field4 .last .0)
+    (put-byte .last .0) (put-field4 .ensures) (put-byte .ensures)))))
 
 pub put-answer-spec : {M : Type 1} → statement M
 put-answer-spec =

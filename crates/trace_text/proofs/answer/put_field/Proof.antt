@@ -30,7 +30,11 @@ same-length : tie.Need-same-length
 same-length c = search needs
 
 returns : tie.Need-returns
-returns c = puts (c .before .before .before .before .before .before .before .before .before .before .args .at) (c .before .before .before .before .before .before .put-text .result) (c .before .before .put-number .result) (c .before .before .before .before .before .before .before .before .before .before .args .key .now) (decimal (c .before .before .before .before .before .before .before .before .before .before .args .n)) (c .before .before .before .before .before .before .before .before .before .before .args .out .now) (c .before .before .before .before .before .before .put-text .last .0) (c .before .before .put-number .last .0) (c .before .before .before .before .before .before .put-text .ensures) (c .before .before .put-number .ensures)
+returns c =
+    let args = c .before .before .before .before .before .before .before .before .before .before .args in
+    let put-text = c .before .before .before .before .before .before .put-text in
+    let put-number = c .before .before .put-number in
+    puts (args .at) (put-text .result) (put-number .result) (args .key .now) (decimal (args .n)) (args .out .now) (put-text .last .0) (put-number .last .0) (put-text .ensures) (put-number .ensures)
 
 pub put-field-spec : {M : Type 1} → statement M
 put-field-spec = tie.close (tie.spec put-text-requires put-number-requires same-length returns)

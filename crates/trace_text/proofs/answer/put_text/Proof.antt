@@ -41,7 +41,12 @@ loop-less : tie.Need-loop-less Inv-loop μ-loop
 loop-less c = search needs
 
 loop-again : tie.Need-loop-again Inv-loop μ-loop
-loop-again c = (omega arith, (c .before .before .put-byte .kept .0 ∙ c .before .before .before .before .before .before .loop .inv .1 .0, put-next (c .before .before .before .before .before .before .before .before .before .args .text .now) (c .before .before .before .before .before .before .loop .out) (c .before .before .put-byte .last .0) (c .before .before .before .before .before .before .loop .k) (c .before .before .before .before .before .before .loop .i) (c .before .before .put-byte .result) (c .before .before .before .before .before .loop-test .taken) (c .before .before .put-byte .ensures) ∙ c .before .before .before .before .before .before .loop .inv .1 .1))
+loop-again c =
+    let args = c .before .before .before .before .before .before .before .before .before .args in
+    let loop = c .before .before .before .before .before .before .loop in
+    let loop-test = c .before .before .before .before .before .loop-test in
+    let put-byte = c .before .before .put-byte in
+    (omega arith, (put-byte .kept .0 ∙ loop .inv .1 .0, put-next (args .text .now) (loop .out) (put-byte .last .0) (loop .k) (loop .i) (put-byte .result) (loop-test .taken) (put-byte .ensures) ∙ loop .inv .1 .1))
 
 same-length : tie.Need-same-length Inv-loop μ-loop
 same-length c = c .before .loop .inv .1 .0

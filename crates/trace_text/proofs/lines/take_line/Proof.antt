@@ -49,7 +49,13 @@ loop-less : tie.Need-loop-less Inv-loop μ-loop
 loop-less c = search needs
 
 loop-again : tie.Need-loop-again Inv-loop μ-loop
-loop-again c = (c .before .before .put .kept .0 ∙ c .before .before .before .before .before .before .before .loop .inv .0, cut-next (c .before .before .before .before .before .before .before .before .before .before .args .piece .now) (c .before .before .before .before .before .before .before .loop .line) (c .before .before .before .before .before .before .before .loop .i) (c .before .before .before .before .before .before .before .loop .n) (c .before .before .put .result) (c .before .before .put .last .0) (c .before .before .before .before .before .before .loop-test .taken) (c .before .before .before .before .if1 .left) (c .before .before .put .ensures) ∙ c .before .before .before .before .before .before .before .loop .inv .1)
+loop-again c =
+    let args = c .before .before .before .before .before .before .before .before .before .before .args in
+    let loop = c .before .before .before .before .before .before .before .loop in
+    let loop-test = c .before .before .before .before .before .before .loop-test in
+    let if1 = c .before .before .before .before .if1 in
+    let put = c .before .before .put in
+    (put .kept .0 ∙ loop .inv .0, cut-next (args .piece .now) (loop .line) (loop .i) (loop .n) (put .result) (put .last .0) (loop-test .taken) (if1 .left) (put .ensures) ∙ loop .inv .1)
 
 same-length-2 : tie.Need-same-length-2 Inv-loop μ-loop
 same-length-2 c = c .before .loop .inv .0

@@ -1,0 +1,5 @@
+-- The definitions of `trace_readers`.
+pub mod State
+pub mod Rooms
+pub mod Requests
+pub mod Fragments
