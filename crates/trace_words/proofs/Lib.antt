@@ -1,0 +1,3 @@
+-- The laws of `trace_words`.
+pub mod Said
+pub mod Unique

@@ -1,0 +1,2 @@
+-- The definitions of `trace_words`.
+pub mod Words
