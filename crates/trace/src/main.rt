@@ -2,15 +2,12 @@
 ghost use mathlib.Core.Path.{_≡_};
 ghost use Prim.Native.Nat.{_≤_};
 ghost use lib.ListN.{length};
-
-mod explain;
-
-use explain::put_explained;
 use libc::STDERR_FILENO;
 use libc::STDIN_FILENO;
 use libc::STDOUT_FILENO;
 use numbers::arith::smaller;
 use trace_answers::Answering;
+use trace_words::put_explained;
 
 // What goes on from turn to turn: how the answering stands, how many bytes the piece has, whether there may be more to read, and whether the
 // answers couldn't be written.
@@ -102,7 +99,21 @@ fn in_words(explain: bool, a: Answering, line: &[u8], out: &mut [u8]) -> usize {
     let start = 0;
     let shown = smaller(cut.held, line.len());
     let too_long = line.len() < cut.held;
-    put_explained(out, 0, a.lines, &line[start..shown], too_long, a.followed)
+    let f = a.followed;
+    let answer = f.answer;
+    let trace = f.trace;
+    let flow = trace.flow;
+    put_explained(
+        out,
+        0,
+        a.lines,
+        &line[start..shown],
+        too_long,
+        answer.number,
+        flow.last.rank(),
+        flow.first.rank(),
+        flow.acked.rank(),
+    )
 }
 
 impl Run {
