@@ -44,16 +44,26 @@ same-length c =
 
 returns : tie.Need-returns
 returns c =
-    let args = c .before .before .before .before .before .before .before .before .before .before .before .before .before .before .before .before .before .before .before .before .before .before .before .args in
-    let put-heading = c .before .before .before .before .before .before .before .before .before .before .before .before .before .before .before .before .before .before .before .put-heading in
-    let put-numbered = c .before .before .before .before .before .before .before .before .before .before .before .before .before .before .before .put-numbered in
-    let put-text = c .before .before .before .before .before .before .before .before .before .before .put-text in
-    let put-figures = c .before .before .before .before .before .before .put-figures in
-    let put-byte = c .before .before .put-byte in
-    (puts (args .at) (put-heading .result) (put-byte .result) (heading (args .lines) (args .line .now) (args .long)) ((numbered (args .answer)) ++ ((10 ∷ bytes "    ") ++ ((figures (args .last) (args .first) (args .acked)) ++ ((10 ∷ []))))) (args .out .now) (put-heading .last .0) (put-byte .last .0) (put-heading .ensures)
-    (puts (put-heading .result) (put-numbered .result) (put-byte .result) (numbered (args .answer)) ((10 ∷ bytes "    ") ++ ((figures (args .last) (args .first) (args .acked)) ++ ((10 ∷ [])))) (put-heading .last .0) (put-numbered .last .0) (put-byte .last .0) (put-numbered .ensures)
-    (puts (put-numbered .result) (put-text .result) (put-byte .result) (10 ∷ bytes "    ") ((figures (args .last) (args .first) (args .acked)) ++ ((10 ∷ []))) (put-numbered .last .0) (put-text .last .0) (put-byte .last .0) (put-text .ensures)
-    (puts (put-text .result) (put-figures .result) (put-byte .result) (figures (args .last) (args .first) (args .acked)) ((10 ∷ [])) (put-text .last .0) (put-figures .last .0) (put-byte .last .0) (put-figures .ensures) (put-byte .ensures)))))
+    let args′ = c .before .before .before .before .before .before .before .before .before .before .before .before .before .before .before .before .before .before .before .before .before .before .before .args in
+    let put-heading′ = c .before .before .before .before .before .before .before .before .before .before .before .before .before .before .before .before .before .before .before .put-heading in
+    let put-numbered′ = c .before .before .before .before .before .before .before .before .before .before .before .before .before .before .before .put-numbered in
+    let put-text′ = c .before .before .before .before .before .before .before .before .before .before .put-text in
+    let put-figures′ = c .before .before .before .before .before .before .put-figures in
+    let put-byte′ = c .before .before .put-byte in
+    let args = args′ in
+    let put-heading = put-heading′ in
+    let put-numbered = put-numbered′ in
+    let put-text = put-text′ in
+    let put-figures = put-figures′ in
+    let put-byte = put-byte′ in
+    (puts (args .at) (put-heading .result) (put-byte .result) (heading (args .lines) (args .line .now) (args .long))
+    ((numbered (args .answer)) ++ ((10 ∷ bytes "    ") ++ ((figures (args .last) (args .first) (args .acked)) ++ ((10 ∷ []))))) (args .out .now) (put-heading .last .0) (put-byte .last .0) (put-heading .ensures)
+    (puts (put-heading .result) (put-numbered .result) (put-byte .result) (numbered (args .answer)) ((10 ∷ bytes "    ") ++ ((figures (args .last) (args .first) (args .acked)) ++ ((10 ∷ [])))) (put-heading .last .0)
+    (put-numbered .last .0) (put-byte .last .0) (put-numbered .ensures)
+    (puts (put-numbered .result) (put-text .result) (put-byte .result) (10 ∷ bytes "    ") ((figures (args .last) (args .first) (args .acked)) ++ ((10 ∷ []))) (put-numbered .last .0) (put-text .last .0)
+    (put-byte .last .0) (put-text .ensures)
+    (puts (put-text .result) (put-figures .result) (put-byte .result) (figures (args .last) (args .first) (args .acked)) ((10 ∷ [])) (put-text .last .0) (put-figures .last .0) (put-byte .last .0) (put-figures .ensures)
+    (put-byte .ensures)))))
 
 pub put-explained-spec : {M : Type 1} → statement M
 put-explained-spec =

@@ -43,25 +43,41 @@ same-length : tie.Need-same-length
 same-length c = search needs
 
 returns : tie.Need-returns
-returns c = put-as (c .before .before .before .before .before .before .before .args .at) (c .before .before .before .before .before .before .before .args .out .now) (meaning8 8) (meaning8 (c .before .before .before .before .before .before .before .args .number)) (ap meaning8 (sym (c .before .before .before .before .before .match .keys1))) (c .before .before .put-text .ensures)
+returns c =
+    let args = c .before .before .before .before .before .before .before .args in
+    let match = c .before .before .before .before .before .match in
+    let put-text = c .before .before .put-text in
+    put-as (args .at) (args .out .now) (meaning8 8) (meaning8 (args .number)) (ap meaning8 (sym (match .keys1))) (put-text .ensures)
 
 same-length-2 : tie.Need-same-length-2
 same-length-2 c = search needs
 
 returns-2 : tie.Need-returns-2
-returns-2 c = put-as (c .before .before .before .before .before .before .before .args .at) (c .before .before .before .before .before .before .before .args .out .now) (meaning8 9) (meaning8 (c .before .before .before .before .before .before .before .args .number)) (ap meaning8 (sym (c .before .before .before .before .before .match .keys2))) (c .before .before .put-text2 .ensures)
+returns-2 c =
+    let args = c .before .before .before .before .before .before .before .args in
+    let match = c .before .before .before .before .before .match in
+    let put-text2 = c .before .before .put-text2 in
+    put-as (args .at) (args .out .now) (meaning8 9) (meaning8 (args .number)) (ap meaning8 (sym (match .keys2))) (put-text2 .ensures)
 
 same-length-3 : tie.Need-same-length-3
 same-length-3 c = search needs
 
 returns-3 : tie.Need-returns-3
-returns-3 c = put-as (c .before .before .before .before .before .before .before .args .at) (c .before .before .before .before .before .before .before .args .out .now) (meaning8 10) (meaning8 (c .before .before .before .before .before .before .before .args .number)) (ap meaning8 (sym (c .before .before .before .before .before .match .keys3))) (c .before .before .put-text3 .ensures)
+returns-3 c =
+    let args = c .before .before .before .before .before .before .before .args in
+    let match = c .before .before .before .before .before .match in
+    let put-text3 = c .before .before .put-text3 in
+    put-as (args .at) (args .out .now) (meaning8 10) (meaning8 (args .number)) (ap meaning8 (sym (match .keys3))) (put-text3 .ensures)
 
 same-length-4 : tie.Need-same-length-4
 same-length-4 c = search needs
 
 returns-4 : tie.Need-returns-4
-returns-4 c = put-as (c .before .before .before .before .before .before .before .args .at) (c .before .before .before .before .before .before .before .args .out .now) (meaning8 11) (meaning8 (c .before .before .before .before .before .before .before .args .number)) (ap meaning8 (sym (c .before .before .before .before .before .match .keys4))) (c .before .before .put-text4 .ensures)
+returns-4 c =
+    let args = c .before .before .before .before .before .before .before .args in
+    let match = c .before .before .before .before .before .match in
+    let put-text4 = c .before .before .put-text4 in
+    put-as (args .at) (args .out .now) (meaning8 11) (meaning8 (args .number)) (ap meaning8 (sym (match .keys4))) (put-text4 .ensures)
 
 same-length-5 : tie.Need-same-length-5
 same-length-5 c = search needs
