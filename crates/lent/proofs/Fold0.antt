@@ -44,18 +44,19 @@ use denote.Triple.Clauses.{Clauses, Ended, closing}
 use denote.Triple.Walked.{says, Stays, stay-none-slice, walkOf, goes-none-slice, Walks, ends-at, walked, walk-meets}
 use Rattle.lent.proofs.Places.{word, place-fits, next-fits, nearer, one-more, none-left}
 use Rattle.lent.proofs.Plain.{Cell, row, slot, Ok, By1, By2, calls1, calls2}
-use Rattle.lent.proofs.On.{Over0, calls-on0}
+use Rattle.lent.proofs.Loop.{moreOf, turnOf}
+use Rattle.lent.proofs.On.{on0, tells0, Over0, calls-on0}
 
 -- S is the element, C what is asked of the whole list first, B the accumulator, Q the result. d is any element, and `small` is `tt`
 module _ (S C B Q : Cell) (F : List (S .Den) → C .Den) (begin : C .Den → B .Den) (step : B .Den → S .Den → B .Den) (end : B .Den → Q .Den) (G : List (S .Den) → Q .Den) (is-G : (ys : List (S .Den)) → end (foldl step (begin (F ys)) ys) ≡ G ys) (d : S .Den) (small : T (ltb (size (S .ty)) (2 ^ bits w64))) where
-  abbrev signature : Signature
-  signature = record { lifetimes = 1; outlives = []; params = shrSliceOf (0 ∷ []) tt (slot S) ∷ []; result = slot Q }
-
   abbrev ended : Ended
-  ended = record { signature = signature; kept = (yes, tt) }
+  ended = on0 S Q
+
+  abbrev signature : Signature
+  signature = ended .signature
 
   abbrev clauses : {M : Type 1} (𝓤 : URA M) → Clauses 𝓤 ended
-  clauses 𝓤 κs a = record { ghost = Unit {0}; requires = λ _. emp 𝓤; ensures = λ _ r e. fact 𝓤 (r ≡ G (now (a .0))) }
+  clauses 𝓤 = tells0 𝓤 S Q G
 
   abbrev stayed : Stays (ended .signature .params) (ended .kept)
   stayed = (stay-none-slice (0 ∷ []) tt (slot S) yes, tt)
@@ -65,16 +66,10 @@ module _ (S C B Q : Cell) (F : List (S .Den) → C .Den) (begin : C .Den → B .
 
   -- the MIR. The locals: the result, list, c, acc, i, a number, the test, the place of `list[i]`, and what is read there
   abbrev more : Name → Body
-  more g = seq (assign (place 5 []) (op2 (mul unsigned) (copy (place 4 [])) (int w64 (size (S .ty)))))
-      (seq (assign (place 7 []) (op2 offset (copy (place 1 (field 0 ∷ []))) (copy (place 5 []))))
-      (seq (assign (place 8 []) (rvOpd (copy (place 7 (deref (S .ty) ∷ [])))))
-      (seq (call g (copy (place 3 []) ∷ copy (place 8 []) ∷ []) (place 3 []))
-      (assign (place 4 []) (op2 (add unsigned) (copy (place 4 [])) (int w64 1))))))
+  more = moreOf S 3 4 5 6 7 8
 
   abbrev turn : Name → Body
-  turn g = seq (assign (place 5 []) (rvOpd (copy (place 1 (field 1 ∷ [])))))
-      (seq (assign (place 6 []) (op2 (lt unsigned) (copy (place 4 [])) (copy (place 5 []))))
-      (seq (cond (copy (place 6 [])) skipᴹ (exit 1)) (more g)))
+  turn = turnOf S 3 4 5 6 7 8
 
   abbrev rest : Name → Body
   rest g = seq (call g (copy (place 3 []) ∷ []) (place 0 [])) return

@@ -44,6 +44,7 @@ use denote.Triple.Clauses.{Clauses, Ended, closing}
 use denote.Triple.Walked.{says, Stays, stay-none-slice, stay-none, walkOf, goes-none-slice, goes-none, Walks, ends-at, walked, walk-meets}
 use Rattle.lent.proofs.Places.{word, place-fits, next-fits, nearer, one-more, none-left}
 use Rattle.lent.proofs.Plain.{Cell, row, slot, Ok, By1, By2, calls1, calls2}
+use Rattle.lent.proofs.Loop.{moreOf, turnOf}
 use Rattle.lent.proofs.On.{Over0, calls-on0}
 
 -- S is the element, P the parameter, C what is asked of the whole list first, B the accumulator, Q the result. d is any element, and `small` is `tt`
@@ -65,16 +66,10 @@ module _ (S P C B Q : Cell) (F : List (S .Den) → C .Den) (begin : P .Den → C
 
   -- the MIR. The locals: the result, list, p, c, acc, i, a number, the test, the place of `list[i]`, and what is read there
   abbrev more : Name → Body
-  more g = seq (assign (place 6 []) (op2 (mul unsigned) (copy (place 5 [])) (int w64 (size (S .ty)))))
-      (seq (assign (place 8 []) (op2 offset (copy (place 1 (field 0 ∷ []))) (copy (place 6 []))))
-      (seq (assign (place 9 []) (rvOpd (copy (place 8 (deref (S .ty) ∷ [])))))
-      (seq (call g (copy (place 4 []) ∷ copy (place 9 []) ∷ []) (place 4 []))
-      (assign (place 5 []) (op2 (add unsigned) (copy (place 5 [])) (int w64 1))))))
+  more = moreOf S 4 5 6 7 8 9
 
   abbrev turn : Name → Body
-  turn g = seq (assign (place 6 []) (rvOpd (copy (place 1 (field 1 ∷ [])))))
-      (seq (assign (place 7 []) (op2 (lt unsigned) (copy (place 5 [])) (copy (place 6 []))))
-      (seq (cond (copy (place 7 [])) skipᴹ (exit 1)) (more g)))
+  turn = turnOf S 4 5 6 7 8 9
 
   abbrev rest : Name → Body
   rest g = seq (call g (copy (place 4 []) ∷ []) (place 0 [])) return

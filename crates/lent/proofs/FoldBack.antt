@@ -46,21 +46,21 @@ use denote.Triple.Clauses.{Clauses, Ended, closing}
 use denote.Triple.Walked.{says, Stays, stay-none-slice, walkOf, goes-none-slice, Walks, ends-at, walked, walk-meets}
 use Rattle.lent.proofs.Places.{word, place-fits}
 use Rattle.lent.proofs.Plain.{Cell, row, slot, Ok, uint, By0, By1, By2, calls0, calls1, calls2}
-use Rattle.lent.proofs.On.{Over2, calls-on2}
+use Rattle.lent.proofs.On.{on0, tells0, Over2, calls-on2}
 
 -- S is the element, C what is asked of the whole list, B the accumulator, Q the result. d is any element, and `small` is `tt`
 module _ (S C B Q : Cell) (F : List (S .Den) → ℕ → S .Den → C .Den) (begin : B .Den) (meet : B .Den → S .Den → B .Den) (start : B .Den → ℕ → ℕ) (told : B .Den → C .Den → B .Den) (end : B .Den → Q .Den) (gone : List (S .Den) → B .Den) (d : S .Den)
     (is-none : gone [] ≡ begin)
     (is-more : (ys : List (S .Den)) → length ys < 2 ^ 64 → (i : ℕ) → 0 < i → i ≤ length ys → told (meet (gone (past i ys)) (getD ys (i - 1) d)) (F ys (start (meet (gone (past i ys)) (getD ys (i - 1) d)) i) (getD ys (i - 1) d)) ≡ gone (past (i - 1) ys))
     (G : List (S .Den) → Q .Den) (is-G : (ys : List (S .Den)) → length ys < 2 ^ 64 → end (gone ys) ≡ G ys) (small : T (ltb (size (S .ty)) (2 ^ bits w64))) where
-  abbrev signature : Signature
-  signature = record { lifetimes = 1; outlives = []; params = shrSliceOf (0 ∷ []) tt (slot S) ∷ []; result = slot Q }
-
   abbrev ended : Ended
-  ended = record { signature = signature; kept = (yes, tt) }
+  ended = on0 S Q
+
+  abbrev signature : Signature
+  signature = ended .signature
 
   abbrev clauses : {M : Type 1} (𝓤 : URA M) → Clauses 𝓤 ended
-  clauses 𝓤 κs a = record { ghost = Unit {0}; requires = λ _. emp 𝓤; ensures = λ _ r e. fact 𝓤 (r ≡ G (now (a .0))) }
+  clauses 𝓤 = tells0 𝓤 S Q G
 
   abbrev stayed : Stays (ended .signature .params) (ended .kept)
   stayed = (stay-none-slice (0 ∷ []) tt (slot S) yes, tt)

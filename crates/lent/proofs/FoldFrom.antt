@@ -42,18 +42,20 @@ use denote.Triple.Statement.{Triple}
 use denote.Triple.Clauses.{Clauses, Ended, closing}
 use denote.Triple.Walked.{says, Stays, stay-none-slice, stay-none, walkOf, goes-none-slice, goes-none, Walks, ends-at, walked, walk-meets}
 use Rattle.lent.proofs.Places.{word, place-fits, next-fits, nearer, one-more, none-left}
+use Rattle.lent.proofs.Loop.{moreOf, turnOf}
+use Rattle.lent.proofs.On.{on2, tells2}
 use Rattle.lent.proofs.Plain.{Cell, row, slot, Ok, uint, By1, By2, calls1, calls2}
 
 -- S is the element, P the parameter, B the accumulator, Q the result. d is any element, and `small` is `tt`
 module _ (S P B Q : Cell) (begin : P .Den → B .Den) (step : B .Den → S .Den → B .Den) (end : B .Den → Q .Den) (G : List (S .Den) → ℕ → P .Den → Q .Den) (is-G : (ys : List (S .Den)) (from : ℕ) (p : P .Den) → end (foldl step (begin p) (past from ys)) ≡ G ys from p) (d : S .Den) (small : T (ltb (size (S .ty)) (2 ^ bits w64))) where
-  abbrev signature : Signature
-  signature = record { lifetimes = 1; outlives = []; params = shrSliceOf (0 ∷ []) tt (slot S) ∷ slot (uint w64) ∷ slot P ∷ []; result = slot Q }
-
   abbrev ended : Ended
-  ended = record { signature = signature; kept = (yes, (yes, (yes, tt))) }
+  ended = on2 S P Q
+
+  abbrev signature : Signature
+  signature = ended .signature
 
   abbrev clauses : {M : Type 1} (𝓤 : URA M) → Clauses 𝓤 ended
-  clauses 𝓤 κs a = record { ghost = Unit {0}; requires = λ _. emp 𝓤; ensures = λ _ r e. fact 𝓤 (r ≡ G (now (a .0)) (a .1 .0) (a .1 .1 .0)) }
+  clauses 𝓤 = tells2 𝓤 S P Q G
 
   abbrev stayed : Stays (ended .signature .params) (ended .kept)
   stayed = (stay-none-slice (0 ∷ []) tt (slot S) yes, (stay-none (λ _. row (uint w64)) yes, (stay-none (λ _. row P) yes, tt)))
@@ -63,16 +65,10 @@ module _ (S P B Q : Cell) (begin : P .Den → B .Den) (step : B .Den → S .Den 
 
   -- the MIR. The locals: the result, list, from, p, acc, i, a number, the test, the place of `list[i]`, and what is read there
   abbrev more : Name → Body
-  more g = seq (assign (place 6 []) (op2 (mul unsigned) (copy (place 5 [])) (int w64 (size (S .ty)))))
-      (seq (assign (place 8 []) (op2 offset (copy (place 1 (field 0 ∷ []))) (copy (place 6 []))))
-      (seq (assign (place 9 []) (rvOpd (copy (place 8 (deref (S .ty) ∷ [])))))
-      (seq (call g (copy (place 4 []) ∷ copy (place 9 []) ∷ []) (place 4 []))
-      (assign (place 5 []) (op2 (add unsigned) (copy (place 5 [])) (int w64 1))))))
+  more = moreOf S 4 5 6 7 8 9
 
   abbrev turn : Name → Body
-  turn g = seq (assign (place 6 []) (rvOpd (copy (place 1 (field 1 ∷ [])))))
-      (seq (assign (place 7 []) (op2 (lt unsigned) (copy (place 5 [])) (copy (place 6 []))))
-      (seq (cond (copy (place 7 [])) skipᴹ (exit 1)) (more g)))
+  turn = turnOf S 4 5 6 7 8 9
 
   abbrev rest : Name → Body
   rest g = seq (call g (copy (place 4 []) ∷ []) (place 0 [])) return

@@ -34,17 +34,17 @@ use Rattle.lent.proofs.Plain.{Cell, row, slot, Ok, uint, written-out}
 abbrev passed : {X : Type 0} → RefT (List X) → Val
 passed r = sliceVal (r .ptr) (length (now r))
 
-abbrev on0 : (S Q : Cell) → Ended
+abbrev pub on0 : (S Q : Cell) → Ended
 on0 S Q = record { signature = record { lifetimes = 1; outlives = []; params = shrSliceOf (0 ∷ []) tt (slot S) ∷ []; result = slot Q }; kept = (yes, tt) }
 
-abbrev on2 : (S P Q : Cell) → Ended
+abbrev pub on2 : (S P Q : Cell) → Ended
 on2 S P Q = record { signature = record { lifetimes = 1; outlives = []; params = shrSliceOf (0 ∷ []) tt (slot S) ∷ slot (uint w64) ∷ slot P ∷ []; result = slot Q }; kept = (yes, (yes, (yes, tt))) }
 
 module _ {M : Type 1} (𝓤 : URA M) where
-  abbrev tells0 : (S Q : Cell) → (List (S .Den) → Q .Den) → Clauses 𝓤 (on0 S Q)
+  abbrev pub tells0 : (S Q : Cell) → (List (S .Den) → Q .Den) → Clauses 𝓤 (on0 S Q)
   tells0 S Q G κs a = record { ghost = Unit {0}; requires = λ _. emp 𝓤; ensures = λ _ r e. fact 𝓤 (r ≡ G (now (a .0))) }
 
-  abbrev tells2 : (S P Q : Cell) → (List (S .Den) → ℕ → P .Den → Q .Den) → Clauses 𝓤 (on2 S P Q)
+  abbrev pub tells2 : (S P Q : Cell) → (List (S .Den) → ℕ → P .Den → Q .Den) → Clauses 𝓤 (on2 S P Q)
   tells2 S P Q G κs a = record { ghost = Unit {0}; requires = λ _. emp 𝓤; ensures = λ _ r e. fact 𝓤 (r ≡ G (now (a .0)) (a .1 .0) (a .1 .1 .0)) }
 
   module _ (H : Heap 𝓤) (A : Atoms 𝓤) where
