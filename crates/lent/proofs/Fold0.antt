@@ -44,37 +44,26 @@ use denote.Triple.Clauses.{Clauses, Ended, closing}
 use denote.Triple.Walked.{says, Stays, stay-none-slice, walkOf, goes-none-slice, Walks, ends-at, walked, walk-meets}
 use Rattle.lent.proofs.Places.{word, place-fits, next-fits, nearer, one-more, none-left}
 use Rattle.lent.proofs.Plain.{Cell, row, slot, Ok, By1, By2, calls1, calls2}
-use Rattle.lent.proofs.On.{Over0, calls-on0}
+use Rattle.lent.proofs.Loop.{moreOf, turnOf}
+use Rattle.lent.proofs.On.{listTy, on0, tells0, Over0, calls-on0}
 
 -- S is the element, C what is asked of the whole list first, B the accumulator, Q the result. d is any element, and `small` is `tt`
 module _ (S C B Q : Cell) (F : List (S .Den) → C .Den) (begin : C .Den → B .Den) (step : B .Den → S .Den → B .Den) (end : B .Den → Q .Den) (G : List (S .Den) → Q .Den) (is-G : (ys : List (S .Den)) → end (foldl step (begin (F ys)) ys) ≡ G ys) (d : S .Den) (small : T (ltb (size (S .ty)) (2 ^ bits w64))) where
-  abbrev signature : Signature
-  signature = record { lifetimes = 1; outlives = []; params = shrSliceOf (0 ∷ []) tt (slot S) ∷ []; result = slot Q }
-
   abbrev ended : Ended
-  ended = record { signature = signature; kept = (yes, tt) }
+  ended = on0 S Q
 
   abbrev clauses : {M : Type 1} (𝓤 : URA M) → Clauses 𝓤 ended
-  clauses 𝓤 κs a = record { ghost = Unit {0}; requires = λ _. emp 𝓤; ensures = λ _ r e. fact 𝓤 (r ≡ G (now (a .0))) }
+  clauses 𝓤 = tells0 𝓤 S Q G
 
   abbrev stayed : Stays (ended .signature .params) (ended .kept)
   stayed = (stay-none-slice (0 ∷ []) tt (slot S) yes, tt)
 
-  abbrev slice : Ty
-  slice = sliceTy (tyRef (named 0) imm (pointee (S .written)))
-
   -- the MIR. The locals: the result, list, c, acc, i, a number, the test, the place of `list[i]`, and what is read there
   abbrev more : Name → Body
-  more g = seq (assign (place 5 []) (op2 (mul unsigned) (copy (place 4 [])) (int w64 (size (S .ty)))))
-      (seq (assign (place 7 []) (op2 offset (copy (place 1 (field 0 ∷ []))) (copy (place 5 []))))
-      (seq (assign (place 8 []) (rvOpd (copy (place 7 (deref (S .ty) ∷ [])))))
-      (seq (call g (copy (place 3 []) ∷ copy (place 8 []) ∷ []) (place 3 []))
-      (assign (place 4 []) (op2 (add unsigned) (copy (place 4 [])) (int w64 1))))))
+  more = moreOf S 3 4 5 6 7 8
 
   abbrev turn : Name → Body
-  turn g = seq (assign (place 5 []) (rvOpd (copy (place 1 (field 1 ∷ [])))))
-      (seq (assign (place 6 []) (op2 (lt unsigned) (copy (place 4 [])) (copy (place 5 []))))
-      (seq (cond (copy (place 6 [])) skipᴹ (exit 1)) (more g)))
+  turn = turnOf S 3 4 5 6 7 8
 
   abbrev rest : Name → Body
   rest g = seq (call g (copy (place 3 []) ∷ []) (place 0 [])) return
@@ -84,7 +73,7 @@ module _ (S C B Q : Cell) (F : List (S .Den) → C .Den) (begin : C .Den → B .
     lifetimes = 1;
     outlives = [];
     params = 1;
-    locals = local (Q .ty) valueLocal ∷ local slice valueLocal ∷ local (C .ty) valueLocal ∷ local (B .ty) valueLocal ∷ local word valueLocal ∷ local word valueLocal ∷ local tyBool valueLocal ∷ local tyPtr valueLocal ∷ local (S .ty) valueLocal ∷ [];
+    locals = local (Q .ty) valueLocal ∷ local (listTy S) valueLocal ∷ local (C .ty) valueLocal ∷ local (B .ty) valueLocal ∷ local word valueLocal ∷ local word valueLocal ∷ local tyBool valueLocal ∷ local tyPtr valueLocal ∷ local (S .ty) valueLocal ∷ [];
     body = seq (call g₀ (copy (place 1 []) ∷ []) (place 2 [])) (seq (call g₁ (copy (place 2 []) ∷ []) (place 3 [])) (seq (assign (place 4 []) (rvOpd (int w64 0))) (seq (block (loop (turn g₂))) (rest g₃))));
   }
 
@@ -130,14 +119,14 @@ module _ (S C B Q : Cell) (F : List (S .Den) → C .Den) (begin : C .Den → B .
         Λ = 𝓣 .Λ
 
         abbrev En : Env 𝓤 H
-        En = (Q .ty, l₀) ∷ (slice, l₁) ∷ (C .ty, l₂) ∷ (B .ty, l₃) ∷ (word, l₄) ∷ (word, l₅) ∷ (tyBool, l₆) ∷ (tyPtr, l₇) ∷ (S .ty, l₈) ∷ []
+        En = (Q .ty, l₀) ∷ (listTy S, l₁) ∷ (C .ty, l₂) ∷ (B .ty, l₃) ∷ (word, l₄) ∷ (word, l₅) ∷ (tyBool, l₆) ∷ (tyPtr, l₇) ∷ (S .ty, l₈) ∷ []
 
         -- the share of the list, what shuts it, and the borrow; then the locals, the last first
         abbrev At : Upto → List (Item 𝓤)
         At s = ‵ (elements (row S) q′ ys b o) ∷ ‵ (fobor κ q (arr-parts (shares (row S)) n .part q′ ys b o)) ∷ ‵ (ShrSlice (named 0) κ (row S) .own (x .0) (at .0))
             ∷ ‵ (froom (S .ty) l₈ 0) ∷ ‵ (fdies (S .ty) l₈) ∷ ‵ (froom tyPtr l₇ 0) ∷ ‵ (fdies tyPtr l₇) ∷ ‵ (froom tyBool l₆ 0) ∷ ‵ (fdies tyBool l₆) ∷ ‵ (froom word l₅ 0) ∷ ‵ (fdies word l₅)
             ∷ ‵ (fat fullShare word l₄ 0 (vint w64 (s .0))) ∷ ‵ (fdies word l₄) ∷ ‵ (fat fullShare (B .ty) l₃ 0 (B .val (s .1 .0))) ∷ ‵ (fdies (B .ty) l₃) ∷ ‵ (fat fullShare (C .ty) l₂ 0 (C .val (F ys))) ∷ ‵ (fdies (C .ty) l₂)
-            ∷ ‵ (fat fullShare slice l₁ 0 (sliceVal (b, o) n)) ∷ ‵ (fdies slice l₁) ∷ ‵ (froom (Q .ty) l₀ 0) ∷ ‵ (fdies (Q .ty) l₀) ∷ []
+            ∷ ‵ (fat fullShare (listTy S) l₁ 0 (sliceVal (b, o) n)) ∷ ‵ (fdies (listTy S) l₁) ∷ ‵ (froom (Q .ty) l₀ 0) ∷ ‵ (fdies (Q .ty) l₀) ∷ []
 
         -- a turn's postcondition: it ends nearer to n, or the loop is left and the rest of the body runs
         abbrev Turned : Upto → Out → SProp 𝓤
@@ -178,7 +167,7 @@ module _ (S C B Q : Cell) (F : List (S .Den) → C .Den) (begin : C .Den → B .
             next : T (ltb (s .0) n) → Ok B (step (s .1 .0) elem) → Upto
             next less is = (s .0 + 1, (step (s .1 .0) elem, (omega (arith, less-than less), (is, one-more step d ys (s .0) (s .1 .0) all (less-than less) (s .1 .1 .1 .1)))))
 
-      walk : ent 𝓤 (onEntry 𝓤 H A signature (κ, tt) (q, tt) x at) (WpFn 𝓤 H (𝓣 .C) (𝓣 .Λ) (function g₀ g₁ g₂ g₃) (sliceVal (b, o) n ∷ []) Post)
+      walk : ent 𝓤 (onEntry 𝓤 H A (ended .signature) (κ, tt) (q, tt) x at) (WpFn 𝓤 H (𝓣 .C) (𝓣 .Λ) (function g₀ g₁ g₂ g₃) (sliceVal (b, o) n ∷ []) Post)
       walk =
           qed W ((‵ (flft κ q) ⊛ ‵ ftrue) ∷ ‵ (owns (ShrSlice (named 0) κ (row S) ∷ []) x at) ∷ []) ∵ split ! $ move ! (2 ∷ []) $ fsplit ! $
           -- [list; the others'; κ; true]
@@ -200,6 +189,6 @@ module _ (S C B Q : Cell) (F : List (S .Den) → C .Den) (begin : C .Den → B .
     walks = walked 𝓤 H A ended stayed (clauses 𝓤) (WpFn 𝓤 H (𝓣 .C) (𝓣 .Λ) (function g₀ g₁ g₂ g₃)) (λ κs. (slice-vals, tt)) (λ κs. (shr-slice-tells (named 0) (κs .0) (row S), tt))
         (λ κs qs bounds a g are. via 𝓤 _ (fst∗ 𝓤 _ (emp 𝓤)) (walk (κs .0) (qs .0) (a .0 .ptr .0) (a .0 .ptr .1) (a .0 .name) (a .0 .now) (are .0 .0 .1)))
 
-    pub meets : Meets 𝓤 H A signature (WpFn 𝓤 H (𝓣 .C) (𝓣 .Λ) (function g₀ g₁ g₂ g₃)) (closing 𝓤 H A ended (clauses 𝓤))
+    pub meets : Meets 𝓤 H A (ended .signature) (WpFn 𝓤 H (𝓣 .C) (𝓣 .Λ) (function g₀ g₁ g₂ g₃)) (closing 𝓤 H A ended (clauses 𝓤))
     meets = walk-meets 𝓤 H A ended stayed W (goes-none-slice 𝓤 H A W 1 (0 ∷ []) tt (slot S) yes, tt) (clauses 𝓤)
         (WpFn 𝓤 H (𝓣 .C) (𝓣 .Λ) (function g₀ g₁ g₂ g₃)) (WpFn-mono 𝓤 H (W .laws) 𝓣 (function g₀ g₁ g₂ g₃)) walks

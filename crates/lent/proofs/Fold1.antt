@@ -44,7 +44,8 @@ use denote.Triple.Clauses.{Clauses, Ended, closing}
 use denote.Triple.Walked.{says, Stays, stay-none-slice, stay-none, walkOf, goes-none-slice, goes-none, Walks, ends-at, walked, walk-meets}
 use Rattle.lent.proofs.Places.{word, place-fits, next-fits, nearer, one-more, none-left}
 use Rattle.lent.proofs.Plain.{Cell, row, slot, Ok, By1, By2, calls1, calls2}
-use Rattle.lent.proofs.On.{Over0, calls-on0}
+use Rattle.lent.proofs.Loop.{moreOf, turnOf}
+use Rattle.lent.proofs.On.{listTy, Over0, calls-on0}
 
 -- S is the element, P the parameter, C what is asked of the whole list first, B the accumulator, Q the result. d is any element, and `small` is `tt`
 module _ (S P C B Q : Cell) (F : List (S .Den) → C .Den) (begin : P .Den → C .Den → B .Den) (step : B .Den → S .Den → B .Den) (end : B .Den → Q .Den) (G : List (S .Den) → P .Den → Q .Den) (is-G : (ys : List (S .Den)) (p : P .Den) → end (foldl step (begin p (F ys)) ys) ≡ G ys p) (d : S .Den) (small : T (ltb (size (S .ty)) (2 ^ bits w64))) where
@@ -60,21 +61,12 @@ module _ (S P C B Q : Cell) (F : List (S .Den) → C .Den) (begin : P .Den → C
   abbrev stayed : Stays (ended .signature .params) (ended .kept)
   stayed = (stay-none-slice (0 ∷ []) tt (slot S) yes, (stay-none (λ _. row P) yes, tt))
 
-  abbrev slice : Ty
-  slice = sliceTy (tyRef (named 0) imm (pointee (S .written)))
-
   -- the MIR. The locals: the result, list, p, c, acc, i, a number, the test, the place of `list[i]`, and what is read there
   abbrev more : Name → Body
-  more g = seq (assign (place 6 []) (op2 (mul unsigned) (copy (place 5 [])) (int w64 (size (S .ty)))))
-      (seq (assign (place 8 []) (op2 offset (copy (place 1 (field 0 ∷ []))) (copy (place 6 []))))
-      (seq (assign (place 9 []) (rvOpd (copy (place 8 (deref (S .ty) ∷ [])))))
-      (seq (call g (copy (place 4 []) ∷ copy (place 9 []) ∷ []) (place 4 []))
-      (assign (place 5 []) (op2 (add unsigned) (copy (place 5 [])) (int w64 1))))))
+  more = moreOf S 4 5 6 7 8 9
 
   abbrev turn : Name → Body
-  turn g = seq (assign (place 6 []) (rvOpd (copy (place 1 (field 1 ∷ [])))))
-      (seq (assign (place 7 []) (op2 (lt unsigned) (copy (place 5 [])) (copy (place 6 []))))
-      (seq (cond (copy (place 7 [])) skipᴹ (exit 1)) (more g)))
+  turn = turnOf S 4 5 6 7 8 9
 
   abbrev rest : Name → Body
   rest g = seq (call g (copy (place 4 []) ∷ []) (place 0 [])) return
@@ -84,7 +76,7 @@ module _ (S P C B Q : Cell) (F : List (S .Den) → C .Den) (begin : P .Den → C
     lifetimes = 1;
     outlives = [];
     params = 2;
-    locals = local (Q .ty) valueLocal ∷ local slice valueLocal ∷ local (P .ty) valueLocal ∷ local (C .ty) valueLocal ∷ local (B .ty) valueLocal ∷ local word valueLocal ∷ local word valueLocal ∷ local tyBool valueLocal ∷ local tyPtr valueLocal ∷ local (S .ty) valueLocal ∷ [];
+    locals = local (Q .ty) valueLocal ∷ local (listTy S) valueLocal ∷ local (P .ty) valueLocal ∷ local (C .ty) valueLocal ∷ local (B .ty) valueLocal ∷ local word valueLocal ∷ local word valueLocal ∷ local tyBool valueLocal ∷ local tyPtr valueLocal ∷ local (S .ty) valueLocal ∷ [];
     body = seq (call g₀ (copy (place 1 []) ∷ []) (place 3 [])) (seq (call g₁ (copy (place 2 []) ∷ copy (place 3 []) ∷ []) (place 4 [])) (seq (assign (place 5 []) (rvOpd (int w64 0))) (seq (block (loop (turn g₂))) (rest g₃))));
   }
 
@@ -130,14 +122,14 @@ module _ (S P C B Q : Cell) (F : List (S .Den) → C .Den) (begin : P .Den → C
         Λ = 𝓣 .Λ
 
         abbrev En : Env 𝓤 H
-        En = (Q .ty, l₀) ∷ (slice, l₁) ∷ (P .ty, l₂) ∷ (C .ty, l₃) ∷ (B .ty, l₄) ∷ (word, l₅) ∷ (word, l₆) ∷ (tyBool, l₇) ∷ (tyPtr, l₈) ∷ (S .ty, l₉) ∷ []
+        En = (Q .ty, l₀) ∷ (listTy S, l₁) ∷ (P .ty, l₂) ∷ (C .ty, l₃) ∷ (B .ty, l₄) ∷ (word, l₅) ∷ (word, l₆) ∷ (tyBool, l₇) ∷ (tyPtr, l₈) ∷ (S .ty, l₉) ∷ []
 
         -- the share of the list, what shuts it, and the borrow; then the locals, the last first
         abbrev At : Upto → List (Item 𝓤)
         At s = ‵ (elements (row S) q′ ys b o) ∷ ‵ (fobor κ q (arr-parts (shares (row S)) n .part q′ ys b o)) ∷ ‵ (ShrSlice (named 0) κ (row S) .own (x .0) (at .0))
             ∷ ‵ (froom (S .ty) l₉ 0) ∷ ‵ (fdies (S .ty) l₉) ∷ ‵ (froom tyPtr l₈ 0) ∷ ‵ (fdies tyPtr l₈) ∷ ‵ (froom tyBool l₇ 0) ∷ ‵ (fdies tyBool l₇) ∷ ‵ (froom word l₆ 0) ∷ ‵ (fdies word l₆)
             ∷ ‵ (fat fullShare word l₅ 0 (vint w64 (s .0))) ∷ ‵ (fdies word l₅) ∷ ‵ (fat fullShare (B .ty) l₄ 0 (B .val (s .1 .0))) ∷ ‵ (fdies (B .ty) l₄) ∷ ‵ (fat fullShare (C .ty) l₃ 0 (C .val (F ys))) ∷ ‵ (fdies (C .ty) l₃) ∷ ‵ (fat fullShare (P .ty) l₂ 0 (P .val p)) ∷ ‵ (fdies (P .ty) l₂)
-            ∷ ‵ (fat fullShare slice l₁ 0 (sliceVal (b, o) n)) ∷ ‵ (fdies slice l₁) ∷ ‵ (froom (Q .ty) l₀ 0) ∷ ‵ (fdies (Q .ty) l₀) ∷ []
+            ∷ ‵ (fat fullShare (listTy S) l₁ 0 (sliceVal (b, o) n)) ∷ ‵ (fdies (listTy S) l₁) ∷ ‵ (froom (Q .ty) l₀ 0) ∷ ‵ (fdies (Q .ty) l₀) ∷ []
 
         -- a turn's postcondition: it ends nearer to n, or the loop is left and the rest of the body runs
         abbrev Turned : Upto → Out → SProp 𝓤

@@ -46,27 +46,21 @@ use denote.Triple.Clauses.{Clauses, Ended, closing}
 use denote.Triple.Walked.{says, Stays, stay-none-slice, walkOf, goes-none-slice, Walks, ends-at, walked, walk-meets}
 use Rattle.lent.proofs.Places.{word, place-fits}
 use Rattle.lent.proofs.Plain.{Cell, row, slot, Ok, uint, By0, By1, By2, calls0, calls1, calls2}
-use Rattle.lent.proofs.On.{Over2, calls-on2}
+use Rattle.lent.proofs.On.{listTy, on0, tells0, Over2, calls-on2}
 
 -- S is the element, C what is asked of the whole list, B the accumulator, Q the result. d is any element, and `small` is `tt`
 module _ (S C B Q : Cell) (F : List (S .Den) → ℕ → S .Den → C .Den) (begin : B .Den) (meet : B .Den → S .Den → B .Den) (start : B .Den → ℕ → ℕ) (told : B .Den → C .Den → B .Den) (end : B .Den → Q .Den) (gone : List (S .Den) → B .Den) (d : S .Den)
     (is-none : gone [] ≡ begin)
     (is-more : (ys : List (S .Den)) → length ys < 2 ^ 64 → (i : ℕ) → 0 < i → i ≤ length ys → told (meet (gone (past i ys)) (getD ys (i - 1) d)) (F ys (start (meet (gone (past i ys)) (getD ys (i - 1) d)) i) (getD ys (i - 1) d)) ≡ gone (past (i - 1) ys))
     (G : List (S .Den) → Q .Den) (is-G : (ys : List (S .Den)) → length ys < 2 ^ 64 → end (gone ys) ≡ G ys) (small : T (ltb (size (S .ty)) (2 ^ bits w64))) where
-  abbrev signature : Signature
-  signature = record { lifetimes = 1; outlives = []; params = shrSliceOf (0 ∷ []) tt (slot S) ∷ []; result = slot Q }
-
   abbrev ended : Ended
-  ended = record { signature = signature; kept = (yes, tt) }
+  ended = on0 S Q
 
   abbrev clauses : {M : Type 1} (𝓤 : URA M) → Clauses 𝓤 ended
-  clauses 𝓤 κs a = record { ghost = Unit {0}; requires = λ _. emp 𝓤; ensures = λ _ r e. fact 𝓤 (r ≡ G (now (a .0))) }
+  clauses 𝓤 = tells0 𝓤 S Q G
 
   abbrev stayed : Stays (ended .signature .params) (ended .kept)
   stayed = (stay-none-slice (0 ∷ []) tt (slot S) yes, tt)
-
-  abbrev slice : Ty
-  slice = sliceTy (tyRef (named 0) imm (pointee (S .written)))
 
   module _ (g₁ g₂ g₃ g₄ g₅ g₆ : Name) where
     -- the MIR. The locals: the result, list, acc, i, at, h, from, c, the test, a number, the place of `list[at]`, and what is read there
@@ -94,7 +88,7 @@ module _ (S C B Q : Cell) (F : List (S .Den) → ℕ → S .Den → C .Den) (beg
       lifetimes = 1;
       outlives = [];
       params = 1;
-      locals = local (Q .ty) valueLocal ∷ local slice valueLocal ∷ local (B .ty) valueLocal ∷ local word valueLocal ∷ local word valueLocal ∷ local (S .ty) valueLocal ∷ local word valueLocal ∷ local (C .ty) valueLocal ∷ local tyBool valueLocal ∷ local word valueLocal ∷ local tyPtr valueLocal ∷ local (S .ty) valueLocal ∷ [];
+      locals = local (Q .ty) valueLocal ∷ local (listTy S) valueLocal ∷ local (B .ty) valueLocal ∷ local word valueLocal ∷ local word valueLocal ∷ local (S .ty) valueLocal ∷ local word valueLocal ∷ local (C .ty) valueLocal ∷ local tyBool valueLocal ∷ local word valueLocal ∷ local tyPtr valueLocal ∷ local (S .ty) valueLocal ∷ [];
       body = seq (call g₁ [] (place 2 [])) (seq (assign (place 3 []) (rvOpd (copy (place 1 (field 1 ∷ []))))) (seq (block (loop turn)) rest));
     }
 
@@ -138,13 +132,13 @@ module _ (S C B Q : Cell) (F : List (S .Den) → ℕ → S .Den → C .Den) (beg
           Λ = 𝓣 .Λ
 
           abbrev En : Env 𝓤 H
-          En = (Q .ty, l₀) ∷ (slice, l₁) ∷ (B .ty, l₂) ∷ (word, l₃) ∷ (word, l₄) ∷ (S .ty, l₅) ∷ (word, l₆) ∷ (C .ty, l₇) ∷ (tyBool, l₈) ∷ (word, l₉) ∷ (tyPtr, m₀) ∷ (S .ty, m₁) ∷ []
+          En = (Q .ty, l₀) ∷ (listTy S, l₁) ∷ (B .ty, l₂) ∷ (word, l₃) ∷ (word, l₄) ∷ (S .ty, l₅) ∷ (word, l₆) ∷ (C .ty, l₇) ∷ (tyBool, l₈) ∷ (word, l₉) ∷ (tyPtr, m₀) ∷ (S .ty, m₁) ∷ []
 
           -- the token and the borrow; then the locals, the last first
           abbrev At : Upto → List (Item 𝓤)
           At s = ‵ (flft κ q) ∷ ‵ (ShrSlice (named 0) κ (row S) .own (x .0) (at .0))
               ∷ ‵ (froom (S .ty) m₁ 0) ∷ ‵ (fdies (S .ty) m₁) ∷ ‵ (froom tyPtr m₀ 0) ∷ ‵ (fdies tyPtr m₀) ∷ ‵ (froom word l₉ 0) ∷ ‵ (fdies word l₉) ∷ ‵ (froom tyBool l₈ 0) ∷ ‵ (fdies tyBool l₈) ∷ ‵ (froom (C .ty) l₇ 0) ∷ ‵ (fdies (C .ty) l₇) ∷ ‵ (froom word l₆ 0) ∷ ‵ (fdies word l₆)
-              ∷ ‵ (froom (S .ty) l₅ 0) ∷ ‵ (fdies (S .ty) l₅) ∷ ‵ (froom word l₄ 0) ∷ ‵ (fdies word l₄) ∷ ‵ (fat fullShare word l₃ 0 (vint w64 (s .0))) ∷ ‵ (fdies word l₃) ∷ ‵ (fat fullShare (B .ty) l₂ 0 (B .val (s .1 .0))) ∷ ‵ (fdies (B .ty) l₂) ∷ ‵ (fat fullShare slice l₁ 0 (sliceVal (b, o) n)) ∷ ‵ (fdies slice l₁) ∷ ‵ (froom (Q .ty) l₀ 0) ∷ ‵ (fdies (Q .ty) l₀) ∷ []
+              ∷ ‵ (froom (S .ty) l₅ 0) ∷ ‵ (fdies (S .ty) l₅) ∷ ‵ (froom word l₄ 0) ∷ ‵ (fdies word l₄) ∷ ‵ (fat fullShare word l₃ 0 (vint w64 (s .0))) ∷ ‵ (fdies word l₃) ∷ ‵ (fat fullShare (B .ty) l₂ 0 (B .val (s .1 .0))) ∷ ‵ (fdies (B .ty) l₂) ∷ ‵ (fat fullShare (listTy S) l₁ 0 (sliceVal (b, o) n)) ∷ ‵ (fdies (listTy S) l₁) ∷ ‵ (froom (Q .ty) l₀ 0) ∷ ‵ (fdies (Q .ty) l₀) ∷ []
 
           -- a turn's postcondition: it ends nearer to 0, or the loop is left and the rest of the body runs
           abbrev Turned : Upto → Out → SProp 𝓤
@@ -232,7 +226,7 @@ module _ (S C B Q : Cell) (F : List (S .Den) → ℕ → S .Den → C .Den) (beg
         all-there : n ≤ n
         all-there = omega arith
 
-        walk : ent 𝓤 (onEntry 𝓤 H A signature (κ, tt) (q, tt) x at) (WpFn 𝓤 H (𝓣 .C) (𝓣 .Λ) function (sliceVal (b, o) n ∷ []) Post)
+        walk : ent 𝓤 (onEntry 𝓤 H A (ended .signature) (κ, tt) (q, tt) x at) (WpFn 𝓤 H (𝓣 .C) (𝓣 .Λ) function (sliceVal (b, o) n ∷ []) Post)
         walk =
             qed W ((‵ (flft κ q) ⊛ ‵ ftrue) ∷ ‵ (owns (ShrSlice (named 0) κ (row S) ∷ []) x at) ∷ []) ∵ split ! $ move ! (2 ∷ []) $ fsplit ! $
             -- [list; no others; κ; true]
@@ -248,6 +242,6 @@ module _ (S C B Q : Cell) (F : List (S .Den) → ℕ → S .Den → C .Den) (beg
       walks = walked 𝓤 H A ended stayed (clauses 𝓤) (WpFn 𝓤 H (𝓣 .C) (𝓣 .Λ) function) (λ κs. (slice-vals, tt)) (λ κs. (shr-slice-tells (named 0) (κs .0) (row S), tt))
           (λ κs qs bounds a g are. via 𝓤 _ (fst∗ 𝓤 _ (emp 𝓤)) (walk (κs .0) (qs .0) (a .0 .ptr .0) (a .0 .ptr .1) (a .0 .name) (a .0 .now) (are .0 .0 .1)))
 
-      pub meets : Meets 𝓤 H A signature (WpFn 𝓤 H (𝓣 .C) (𝓣 .Λ) function) (closing 𝓤 H A ended (clauses 𝓤))
+      pub meets : Meets 𝓤 H A (ended .signature) (WpFn 𝓤 H (𝓣 .C) (𝓣 .Λ) function) (closing 𝓤 H A ended (clauses 𝓤))
       meets = walk-meets 𝓤 H A ended stayed W (goes-none-slice 𝓤 H A W 1 (0 ∷ []) tt (slot S) yes, tt) (clauses 𝓤)
           (WpFn 𝓤 H (𝓣 .C) (𝓣 .Λ) function) (WpFn-mono 𝓤 H (W .laws) 𝓣 function) walks

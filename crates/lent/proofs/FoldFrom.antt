@@ -42,37 +42,27 @@ use denote.Triple.Statement.{Triple}
 use denote.Triple.Clauses.{Clauses, Ended, closing}
 use denote.Triple.Walked.{says, Stays, stay-none-slice, stay-none, walkOf, goes-none-slice, goes-none, Walks, ends-at, walked, walk-meets}
 use Rattle.lent.proofs.Places.{word, place-fits, next-fits, nearer, one-more, none-left}
+use Rattle.lent.proofs.Loop.{moreOf, turnOf}
+use Rattle.lent.proofs.On.{listTy, on2, tells2}
 use Rattle.lent.proofs.Plain.{Cell, row, slot, Ok, uint, By1, By2, calls1, calls2}
 
 -- S is the element, P the parameter, B the accumulator, Q the result. d is any element, and `small` is `tt`
 module _ (S P B Q : Cell) (begin : P .Den → B .Den) (step : B .Den → S .Den → B .Den) (end : B .Den → Q .Den) (G : List (S .Den) → ℕ → P .Den → Q .Den) (is-G : (ys : List (S .Den)) (from : ℕ) (p : P .Den) → end (foldl step (begin p) (past from ys)) ≡ G ys from p) (d : S .Den) (small : T (ltb (size (S .ty)) (2 ^ bits w64))) where
-  abbrev signature : Signature
-  signature = record { lifetimes = 1; outlives = []; params = shrSliceOf (0 ∷ []) tt (slot S) ∷ slot (uint w64) ∷ slot P ∷ []; result = slot Q }
-
   abbrev ended : Ended
-  ended = record { signature = signature; kept = (yes, (yes, (yes, tt))) }
+  ended = on2 S P Q
 
   abbrev clauses : {M : Type 1} (𝓤 : URA M) → Clauses 𝓤 ended
-  clauses 𝓤 κs a = record { ghost = Unit {0}; requires = λ _. emp 𝓤; ensures = λ _ r e. fact 𝓤 (r ≡ G (now (a .0)) (a .1 .0) (a .1 .1 .0)) }
+  clauses 𝓤 = tells2 𝓤 S P Q G
 
   abbrev stayed : Stays (ended .signature .params) (ended .kept)
   stayed = (stay-none-slice (0 ∷ []) tt (slot S) yes, (stay-none (λ _. row (uint w64)) yes, (stay-none (λ _. row P) yes, tt)))
 
-  abbrev slice : Ty
-  slice = sliceTy (tyRef (named 0) imm (pointee (S .written)))
-
   -- the MIR. The locals: the result, list, from, p, acc, i, a number, the test, the place of `list[i]`, and what is read there
   abbrev more : Name → Body
-  more g = seq (assign (place 6 []) (op2 (mul unsigned) (copy (place 5 [])) (int w64 (size (S .ty)))))
-      (seq (assign (place 8 []) (op2 offset (copy (place 1 (field 0 ∷ []))) (copy (place 6 []))))
-      (seq (assign (place 9 []) (rvOpd (copy (place 8 (deref (S .ty) ∷ [])))))
-      (seq (call g (copy (place 4 []) ∷ copy (place 9 []) ∷ []) (place 4 []))
-      (assign (place 5 []) (op2 (add unsigned) (copy (place 5 [])) (int w64 1))))))
+  more = moreOf S 4 5 6 7 8 9
 
   abbrev turn : Name → Body
-  turn g = seq (assign (place 6 []) (rvOpd (copy (place 1 (field 1 ∷ [])))))
-      (seq (assign (place 7 []) (op2 (lt unsigned) (copy (place 5 [])) (copy (place 6 []))))
-      (seq (cond (copy (place 7 [])) skipᴹ (exit 1)) (more g)))
+  turn = turnOf S 4 5 6 7 8 9
 
   abbrev rest : Name → Body
   rest g = seq (call g (copy (place 4 []) ∷ []) (place 0 [])) return
@@ -82,7 +72,7 @@ module _ (S P B Q : Cell) (begin : P .Den → B .Den) (step : B .Den → S .Den 
     lifetimes = 1;
     outlives = [];
     params = 3;
-    locals = local (Q .ty) valueLocal ∷ local slice valueLocal ∷ local word valueLocal ∷ local (P .ty) valueLocal ∷ local (B .ty) valueLocal ∷ local word valueLocal ∷ local word valueLocal ∷ local tyBool valueLocal ∷ local tyPtr valueLocal ∷ local (S .ty) valueLocal ∷ [];
+    locals = local (Q .ty) valueLocal ∷ local (listTy S) valueLocal ∷ local word valueLocal ∷ local (P .ty) valueLocal ∷ local (B .ty) valueLocal ∷ local word valueLocal ∷ local word valueLocal ∷ local tyBool valueLocal ∷ local tyPtr valueLocal ∷ local (S .ty) valueLocal ∷ [];
     body = seq (call g₁ (copy (place 3 []) ∷ []) (place 4 [])) (seq (assign (place 5 []) (rvOpd (copy (place 2 [])))) (seq (block (loop (turn g₂))) (rest g₃)));
   }
 
@@ -128,14 +118,14 @@ module _ (S P B Q : Cell) (begin : P .Den → B .Den) (step : B .Den → S .Den 
         Λ = 𝓣 .Λ
 
         abbrev En : Env 𝓤 H
-        En = (Q .ty, l₀) ∷ (slice, l₁) ∷ (word, l₂) ∷ (P .ty, l₃) ∷ (B .ty, l₄) ∷ (word, l₅) ∷ (word, l₆) ∷ (tyBool, l₇) ∷ (tyPtr, l₈) ∷ (S .ty, l₉) ∷ []
+        En = (Q .ty, l₀) ∷ (listTy S, l₁) ∷ (word, l₂) ∷ (P .ty, l₃) ∷ (B .ty, l₄) ∷ (word, l₅) ∷ (word, l₆) ∷ (tyBool, l₇) ∷ (tyPtr, l₈) ∷ (S .ty, l₉) ∷ []
 
         -- the share of the list, what shuts it, and the borrow; then the locals, the last first
         abbrev At : Upto → List (Item 𝓤)
         At s = ‵ (elements (row S) q′ ys b o) ∷ ‵ (fobor κ q (arr-parts (shares (row S)) n .part q′ ys b o)) ∷ ‵ (ShrSlice (named 0) κ (row S) .own (x .0) (at .0))
             ∷ ‵ (froom (S .ty) l₉ 0) ∷ ‵ (fdies (S .ty) l₉) ∷ ‵ (froom tyPtr l₈ 0) ∷ ‵ (fdies tyPtr l₈) ∷ ‵ (froom tyBool l₇ 0) ∷ ‵ (fdies tyBool l₇) ∷ ‵ (froom word l₆ 0) ∷ ‵ (fdies word l₆)
             ∷ ‵ (fat fullShare word l₅ 0 (vint w64 (s .0))) ∷ ‵ (fdies word l₅) ∷ ‵ (fat fullShare (B .ty) l₄ 0 (B .val (s .1 .0))) ∷ ‵ (fdies (B .ty) l₄) ∷ ‵ (fat fullShare (P .ty) l₃ 0 (P .val p)) ∷ ‵ (fdies (P .ty) l₃) ∷ ‵ (fat fullShare word l₂ 0 (vint w64 from₀)) ∷ ‵ (fdies word l₂)
-            ∷ ‵ (fat fullShare slice l₁ 0 (sliceVal (b, o) n)) ∷ ‵ (fdies slice l₁) ∷ ‵ (froom (Q .ty) l₀ 0) ∷ ‵ (fdies (Q .ty) l₀) ∷ []
+            ∷ ‵ (fat fullShare (listTy S) l₁ 0 (sliceVal (b, o) n)) ∷ ‵ (fdies (listTy S) l₁) ∷ ‵ (froom (Q .ty) l₀ 0) ∷ ‵ (fdies (Q .ty) l₀) ∷ []
 
         -- a turn's postcondition: it ends nearer to n, or the loop is left and the rest of the body runs
         abbrev Turned : Upto → Out → SProp 𝓤
@@ -176,7 +166,7 @@ module _ (S P B Q : Cell) (begin : P .Den → B .Den) (step : B .Den → S .Den 
             next : T (ltb (s .0) n) → Ok B (step (s .1 .0) elem) → Upto
             next less is = (s .0 + 1, (step (s .1 .0) elem, (is, one-more step d ys (s .0) (s .1 .0) all (less-than less) (s .1 .1 .1))))
 
-      walk : ent 𝓤 (onEntry 𝓤 H A signature (κ, tt) (q, tt) x at) (WpFn 𝓤 H (𝓣 .C) (𝓣 .Λ) (function g₁ g₂ g₃) (sliceVal (b, o) n ∷ vint w64 from₀ ∷ P .val p ∷ []) Post)
+      walk : ent 𝓤 (onEntry 𝓤 H A (ended .signature) (κ, tt) (q, tt) x at) (WpFn 𝓤 H (𝓣 .C) (𝓣 .Λ) (function g₁ g₂ g₃) (sliceVal (b, o) n ∷ vint w64 from₀ ∷ P .val p ∷ []) Post)
       walk =
           qed W ((‵ (flft κ q) ⊛ ‵ ftrue) ∷ ‵ (owns (ShrSlice (named 0) κ (row S) ∷ row (uint w64) ∷ row P ∷ []) x at) ∷ []) ∵ enter ! (𝓣 .C) (𝓣 .Λ) (function g₁ g₂ g₃) (sliceVal (b, o) n ∷ vint w64 from₀ ∷ P .val p ∷ []) _ $
           alloc1 ! (λ l₀. alloc1 ! (λ l₁. alloc1 ! (λ l₂. alloc1 ! (λ l₃. alloc1 ! (λ l₄. alloc1 ! (λ l₅. alloc1 ! (λ l₆. alloc1 ! (λ l₇. alloc1 ! (λ l₈. alloc1 ! (λ l₉. alloc0 ! $ params1 ! $ pass1 ! (init ! 16 refl (tt, (tt, (record { fits = gn .0 }, tt)))) $ pass1 ! (init ! 14 refl (uint w64 .typed 𝓤 H A W from₀ _ is-from .0)) $ pass1 ! (init ! 12 refl (P .typed 𝓤 H A W p _ is-p .0)) $ pass0 ! $
@@ -193,6 +183,6 @@ module _ (S P B Q : Cell) (begin : P .Den → B .Den) (step : B .Den → S .Den 
     walks = walked 𝓤 H A ended stayed (clauses 𝓤) (WpFn 𝓤 H (𝓣 .C) (𝓣 .Λ) (function g₁ g₂ g₃)) (λ κs. (slice-vals, ((λ i. vint w64 i ∷ []), ((λ y. P .val y ∷ []), tt)))) (λ κs. (shr-slice-tells (named 0) (κs .0) (row S), (uint w64 .tells, (P .tells, tt))))
         (λ κs qs bounds a g are. via 𝓤 _ (fst∗ 𝓤 _ (emp 𝓤)) (walk (κs .0) (qs .0) (a .0 .ptr .0) (a .0 .ptr .1) (a .0 .name) (a .0 .now) (are .0 .0 .1) (a .1 .0) (are .1 .0) (a .1 .1 .0) (are .1 .1 .0)))
 
-    pub meets : Meets 𝓤 H A signature (WpFn 𝓤 H (𝓣 .C) (𝓣 .Λ) (function g₁ g₂ g₃)) (closing 𝓤 H A ended (clauses 𝓤))
+    pub meets : Meets 𝓤 H A (ended .signature) (WpFn 𝓤 H (𝓣 .C) (𝓣 .Λ) (function g₁ g₂ g₃)) (closing 𝓤 H A ended (clauses 𝓤))
     meets = walk-meets 𝓤 H A ended stayed W (goes-none-slice 𝓤 H A W 1 (0 ∷ []) tt (slot S) yes, (goes-none 𝓤 H A W 1 (λ _. row (uint w64)) yes (λ κs x f. refl), (goes-none 𝓤 H A W 1 (λ _. row P) yes (λ κs x f. refl), tt))) (clauses 𝓤)
         (WpFn 𝓤 H (𝓣 .C) (𝓣 .Λ) (function g₁ g₂ g₃)) (WpFn-mono 𝓤 H (W .laws) 𝓣 (function g₁ g₂ g₃)) walks

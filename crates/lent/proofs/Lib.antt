@@ -4,6 +4,7 @@ pub mod Lent
 pub mod LentTwo
 pub mod On
 pub mod Places
+pub mod Loop
 pub mod Fold0
 pub mod Fold1
 pub mod FoldFrom

@@ -52,6 +52,7 @@ use denote.Triple.Walked.{says, Stays, stay-slice, stay-none, walkOf, goes-slice
 use Rattle.numbers.specs.Promise.{Left1, Gives1}
 use Rattle.lent.proofs.Places.{word, place-fits, next-fits, nearer, one-more, none-left}
 use Rattle.lent.proofs.Plain.{Cell, row, slot, Ok, By1, By2, calls1, calls2}
+use Rattle.lent.proofs.Loop.{moreOf, turnOf}
 use Rattle.lent.proofs.On.{Over0, calls-on0}
 
 -- a struct of an answer, a place and an element
@@ -119,16 +120,10 @@ module _ (S P C B Q : Cell) (D : Placed Q S) (F : List (S .Den) → C .Den) (beg
 
   -- the MIR
   abbrev more : Name → Body
-  more g = seq (assign (place 10 []) (op2 (mul unsigned) (copy (place 5 [])) (int w64 (size (S .ty)))))
-      (seq (assign (place 12 []) (op2 offset (copy (place 1 (field 0 ∷ []))) (copy (place 10 []))))
-      (seq (assign (place 13 []) (rvOpd (copy (place 12 (deref (S .ty) ∷ [])))))
-      (seq (call g (copy (place 4 []) ∷ copy (place 13 []) ∷ []) (place 4 []))
-      (assign (place 5 []) (op2 (add unsigned) (copy (place 5 [])) (int w64 1))))))
+  more = moreOf S 4 5 10 11 12 13
 
   abbrev turn : Name → Body
-  turn g = seq (assign (place 10 []) (rvOpd (copy (place 1 (field 1 ∷ [])))))
-      (seq (assign (place 11 []) (op2 (lt unsigned) (copy (place 5 [])) (copy (place 10 []))))
-      (seq (cond (copy (place 11 [])) skipᴹ (exit 1)) (more g)))
+  turn = turnOf S 4 5 10 11 12 13
 
   abbrev last : Body
   last = seq (assign (place 0 []) (rvOpd (copy (place 6 (field 0 ∷ []))))) return

@@ -47,7 +47,7 @@ two n = go (n % 2) (omega arith)
     go (suc zero) h = inr refl
     go (suc (suc r)) h = absurd (omega arith)
 
-or-digit : (w k j : ℕ) → digit (bitOr w (2 ^ k)) j ≡ (digit w j || eqb j k)
+pub or-digit : (w k j : ℕ) → digit (bitOr w (2 ^ k)) j ≡ (digit w j || eqb j k)
 or-digit w k j =
     ap (λ (x : ℕ). eqb (x % 2) 1) (or-shr w (2 ^ k) j)
     ∙ ap (λ (x : ℕ). eqb x 1) (or-mod (w / 2 ^ j) (2 ^ k / 2 ^ j) 1)

@@ -7,3 +7,4 @@ pub mod Kept
 pub mod Smallest
 pub mod Unique
 pub mod Frontiers
+pub mod Settled

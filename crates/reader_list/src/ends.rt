@@ -1,8 +1,9 @@
 // What each call asks of the walk, and what it is answered once every slot is seen.
 ghost use mathlib.Core.Path.{_≡_};
-ghost use Rattle.numbers.specs.Refusals.{answerOf};
+ghost use mathlib.Core.Bool.{cond};
+ghost use Rattle.numbers.specs.Refusals.{answerOf, isDone};
 ghost use Rattle.reader_list.specs.Slots.{listed};
-ghost use Rattle.reader_list.specs.Walk.{nowhere, askFront, askFor, askMatch, askAcked, frontEnd, foundEnd, matchEnd, departEnd, ackedEnd};
+ghost use Rattle.reader_list.specs.Walk.{isWhole, nowhere, askFront, askFor, askMatch, askAcked, frontEnd, foundEnd, matchEnd, departEnd, ackedEnd};
 use crate::calls::Acked;
 use crate::calls::Found;
 use crate::calls::Front;
@@ -25,9 +26,10 @@ pub struct Put {
     pub head: ReaderHead,
 }
 
-fn list_answer(limit: bool, coherent: bool, range: bool, reader: bool, full: bool) -> Answer
-    ensures { λ r. ⌜ r ≡ answerOf (listed limit coherent range reader full) ⌝ }
+fn list_answer(s: Seen, limit: bool, range: bool, reader: bool, full: bool) -> Answer
+    ensures { λ r. ⌜ r ≡ answerOf (listed limit (isWhole s) range reader full) ⌝ }
 {
+    let coherent = is_whole(s);
     let mut rows = Rows::none();
     rows.limit = limit;
     rows.incoherent = !coherent;
@@ -37,15 +39,19 @@ fn list_answer(limit: bool, coherent: bool, range: bool, reader: bool, full: boo
     Answer::of(rows)
 }
 
-fn put_nowhere(answer: Answer) -> Put
-    ensures { λ r. ⌜ r ≡ nowhere answer ⌝ }
+// The head to store at a place, or where the call is refused nowhere.
+fn put_at(answer: Answer, at: usize, head: ReaderHead) -> Put
+    ensures { λ r. ⌜ r ≡ cond (isDone answer) (record { answer = answer; at = at; head = head }) (nowhere answer) ⌝ }
 {
-    let head = free_slot();
-    Put {
-        answer,
-        at: 18446744073709551615,
-        head,
+    if answer.number != 0 {
+        let none = free_slot();
+        return Put {
+            answer,
+            at: 18446744073709551615,
+            head: none,
+        };
     }
+    Put { answer, at, head }
 }
 
 pub fn ask_for(id: u64, different: bool) -> Seen
@@ -96,8 +102,7 @@ pub fn ask_acked(a: Acked, different: bool) -> Seen
 pub fn front_end(s: Seen) -> Front
     ensures { λ r. ⌜ r ≡ frontEnd s ⌝ }
 {
-    let whole = is_whole(s);
-    let answer = list_answer(false, whole, false, false, false);
+    let answer = list_answer(s, false, false, false, false);
     if answer.number != 0 {
         let frontier = AckedFrontier::from_rank(0);
         return Front { answer, frontier };
@@ -113,8 +118,7 @@ pub fn found_end(s: Seen) -> Found
     let id = ask.id;
     let at = s.at;
     let n = s.count;
-    let whole = is_whole(s);
-    let answer = list_answer(false, whole, false, (id == 0) | !(at < n), false);
+    let answer = list_answer(s, false, false, (id == 0) | !(at < n), false);
     if answer.number != 0 {
         let none = free_slot();
         return Found {
@@ -140,23 +144,15 @@ pub fn match_end(s: Seen) -> Put
     let at = s.at;
     let free = s.free;
     let n = s.count;
-    let whole = is_whole(s);
     let limit = !((1 <= cap) & (cap <= Match::MOST_CAP));
-    let answer = list_answer(limit, whole, false, (id == 0) | (at < n), !(free < n));
-    if answer.number != 0 {
-        return put_nowhere(answer);
-    }
+    let answer = list_answer(s, limit, false, (id == 0) | (at < n), !(free < n));
     let acked = SequenceNumber::from_rank(0);
     let head = ReaderHead {
         id,
         reliable: ask.reliable,
         acked,
     };
-    Put {
-        answer,
-        at: free,
-        head,
-    }
+    put_at(answer, free, head)
 }
 
 pub fn depart_end(s: Seen) -> Put
@@ -166,13 +162,9 @@ pub fn depart_end(s: Seen) -> Put
     let id = ask.id;
     let at = s.at;
     let n = s.count;
-    let whole = is_whole(s);
-    let answer = list_answer(false, whole, false, (id == 0) | !(at < n), false);
-    if answer.number != 0 {
-        return put_nowhere(answer);
-    }
+    let answer = list_answer(s, false, false, (id == 0) | !(at < n), false);
     let head = free_slot();
-    Put { answer, at, head }
+    put_at(answer, at, head)
 }
 
 pub fn acked_end(s: Seen) -> Put
@@ -182,18 +174,14 @@ pub fn acked_end(s: Seen) -> Put
     let id = ask.id;
     let at = s.at;
     let n = s.count;
-    let whole = is_whole(s);
     let acked = ask.acked;
     let below = acked.is_negative();
-    let answer = list_answer(false, whole, below, (id == 0) | !(at < n), false);
-    if answer.number != 0 {
-        return put_nowhere(answer);
-    }
+    let answer = list_answer(s, false, below, (id == 0) | !(at < n), false);
     let old = s.head;
     let head = ReaderHead {
         id,
         reliable: old.reliable,
         acked,
     };
-    Put { answer, at, head }
+    put_at(answer, at, head)
 }

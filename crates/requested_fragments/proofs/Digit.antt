@@ -9,21 +9,11 @@ use lib.Pow.{pow-pos, pow-add, pow-lt, shl-shr, shl-exact}
 use native.Mathlib.Omega.{arith}
 use native.Mathlib.Nat.{div-one, div-self, div-eq-of-lt, mul-one, mul-mod-left, pow-suc, mul-div-cancel}
 use borrow.Author.Tests.{eqb-true, eqb-false, eq-eqb, ne-eqb, ltb-true, ltb-false}
-use Rattle.number_sets.proofs.Join.{one-bit, two}
+use Rattle.number_sets.proofs.Join.{one-bit, two, or-digit}
 use Rattle.requested_fragments.specs.Words.{bitOf}
 
 pub or-bit : (w k j : ℕ) → bitOf (bitOr w (2 ^ k)) j ≡ (bitOf w j || eqb j k)
-or-bit w k j =
-    ap (λ (x : ℕ). eqb (x % 2) 1) (or-shr w (2 ^ k) j)
-    ∙ ap (λ (x : ℕ). eqb x 1) (or-mod (w / 2 ^ j) (2 ^ k / 2 ^ j) 1)
-    ∙ ap (λ (x : ℕ). eqb (bitOr (w / 2 ^ j % 2) x) 1) (one-bit k j)
-    ∙ go (eqb j k) (two (w / 2 ^ j))
-  where
-    go : (t : Bool) → (w / 2 ^ j % 2 ≡ 0) ⊎ (w / 2 ^ j % 2 ≡ 1) → eqb (bitOr (w / 2 ^ j % 2) (cond t 1 0)) 1 ≡ (eqb (w / 2 ^ j % 2) 1 || t)
-    go true (inl e) = rw e refl
-    go true (inr e) = rw e refl
-    go false (inl e) = rw e refl
-    go false (inr e) = rw e refl
+or-bit = or-digit
 
 -- where bit k is set, turning it clears it
 pub xor-bit : (w k j : ℕ) → bitOf w k ≡ true → bitOf (bitXor w (2 ^ k)) j ≡ (not (eqb j k) && bitOf w j)

@@ -1,8 +1,10 @@
 // Fragments are asked for.
 ghost use mathlib.Core.Path.{_≡_};
 ghost use mathlib.Core.List.{_++_};
-ghost use Prim.Native.Nat.{_+_, _≤_};
+ghost use mathlib.Core.Bool.{false};
+ghost use Prim.Native.Nat.{_+_, _*_, _≤_};
 ghost use lib.ListN.{length, take, drop, replicate};
+ghost use Rattle.sets.specs.Sets.{empty};
 ghost use Rattle.numbers.specs.Promise.{Gives2};
 ghost use Rattle.rising.specs.Runs.{over};
 ghost use Rattle.requested_fragments.specs.Table.{askAll, askable, askedIn};
@@ -43,6 +45,34 @@ fn new_block(words: &mut [u64], end: usize, a: usize, set: FragmentNumberSet)
     ask_block(words, a, set);
 }
 
+// The members of the set are asked for, where the blocks are in their room and something is asked for.
+fn request_some(
+    samples: &mut [u64],
+    words: &mut [u64],
+    count: usize,
+    n: u64,
+    set: FragmentNumberSet,
+) -> usize
+    requires { ⌜ (count ≤ length (now samples)) × (64 * count ≤ length (now words)) × (empty (askable set) ≡ false) ⌝ }
+    ensures { λ r. ⌜ Gives2 r (now (samples .exit)) (now (words .exit)) (askedIn n (askable set) count (now (samples .entry)) (now (words .entry))) ⌝ }
+{
+    let e = rising::run::place(&samples[..count], n);
+    let a = e * 64;
+    if rising::run::holds_at(&samples[..count], e, n) {
+        ask_block(words, a, set);
+        return count;
+    }
+    if samples.len() <= count {
+        return count;
+    }
+    if words.len() / 64 <= count {
+        return count;
+    }
+    let end = count * 64;
+    new_block(words, end, a, set);
+    rising::room::insert(samples, count, n)
+}
+
 // The members of the set are asked for, of sample n: in its block, or in a new one in its place. How many blocks there are.
 pub fn request(
     samples: &mut [u64],
@@ -63,19 +93,5 @@ pub fn request(
     if first.none {
         return count;
     }
-    let e = rising::run::place(&samples[..count], n);
-    let a = e * 64;
-    if rising::run::holds_at(&samples[..count], e, n) {
-        ask_block(words, a, set);
-        return count;
-    }
-    if samples.len() <= count {
-        return count;
-    }
-    if words.len() / 64 <= count {
-        return count;
-    }
-    let end = count * 64;
-    new_block(words, end, a, set);
-    rising::room::insert(samples, count, n)
+    request_some(samples, words, count, n, set)
 }

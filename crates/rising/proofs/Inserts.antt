@@ -15,7 +15,7 @@ use Rattle.rising.specs.Runs.{placeOf, holdsAt, cutOut, putIn, removed, 
 use Rattle.sets.proofs.Bools.{or-no, neither}
 use Rattle.sets.proofs.Loops.{done}
 use Rattle.rising.proofs.Lists.{dropped}
-use Rattle.rising.proofs.Rooms.{past-room, changed, unchanged, as-well, back}
+use Rattle.rising.proofs.Rooms.{changed, unchanged, alike, back}
 
 pub place-le : (n : ℕ) (l : List ℕ) → placeOf n l ≤ length l
 place-le n [] = zero-le
@@ -80,37 +80,32 @@ newest-few : (m n : ℕ) (l : List ℕ) → length (insert n l) ≤ m → newest
 newest-few m n l q = let z : length (insert n l) - m ≡ 0 = omega arith in ap (λ (x : ℕ). drop x (insert n l)) z
 
 -- in the run of c numbers of a room a, i is the place of n
-module _ (c n i : ℕ) (a : List ℕ) (h : c ≤ length a) (e : i ≡ placeOf n (take c a)) where
-  lc : length (take c a) ≡ c
-  lc = length-take-le c a h
-
+module _ (c n i : ℕ) (a : List ℕ) (e : i ≡ placeOf n (take c a)) where
   pub place-in : i ≤ c
-  place-in = omega (arith, place-le n (take c a), lc)
-
-  pub removed-held : (t : Bool) → t ≡ holdsAt n (take c a) i → t ≡ true → cutOut i 1 (take c a) ≡ removed n (take c a)
-  removed-held t p q = rw (← e, ← p, q)
-
-  pub removed-none : (t : Bool) → t ≡ holdsAt n (take c a) i → t ≡ false → Gives1 c a (inRoom (removed n) c a)
-  removed-none t p q = unchanged (removed n) c a h (rw (← e, ← p, q))
+  place-in = omega (arith, place-le n (take c a), length-take c a)
 
   pub from-is : cutOut 0 i (take c a) ≡ fromOn n (take c a)
   from-is = let z : 0 + i ≡ i = omega arith in rw (z, ← e)
 
-  pub before-is : cutOut i (c - i) (take c a) ≡ before n (take c a)
-  before-is =
-      let p = place-in in
-      let z : i + (c - i) ≡ c = omega arith in
-      rw (z, done (take c a) c (omega (arith, lc)), append-nil, ← e)
+  pub before-is : cutOut i c (take c a) ≡ before n (take c a)
+  before-is = rw (done (take c a) (i + c) (omega (arith, length-take c a)), append-nil, ← e)
 
+  -- t says whether it is there
   module _ (t : Bool) (p : t ≡ holdsAt n (take c a) i) where
+    pub removed-held : t ≡ true → cutOut i 1 (take c a) ≡ removed n (take c a)
+    removed-held q = rw (← e, ← p, q)
+
+    pub removed-none : t ≡ false → Gives1 c a (inRoom (removed n) c a)
+    removed-none q = unchanged (removed n) c a (rw (← e, ← p, q))
+
     is-held : t ≡ true → insert n (take c a) ≡ take c a
     is-held q = insert-has n (take c a) (ap (holdsAt n (take c a)) (sym e) ∙ sym p ∙ q)
 
     is-new : t ≡ false → insert n (take c a) ≡ putIn i n (take c a)
     is-new q = insert-new n (take c a) (ap (holdsAt n (take c a)) (sym e) ∙ sym p ∙ q) ∙ ap (λ (x : ℕ). putIn x n (take c a)) (sym e)
 
-    new-length : t ≡ false → length (insert n (take c a)) ≡ suc c
-    new-length q = ap length (is-new q) ∙ put-length i n (take c a) ∙ ap suc lc
+    new-length : t ≡ false → length (insert n (take c a)) ≡ suc (length (take c a))
+    new-length q = ap length (is-new q) ∙ put-length i n (take c a)
 
     within-same : insert n (take c a) ≡ take c a → insertWithin (length a) n (take c a) ≡ take c a
     within-same q = go (leb (length (insert n (take c a))) (length a))
@@ -119,22 +114,21 @@ module _ (c n i : ℕ) (a : List ℕ) (h : c ≤ length a) (e : i ≡ placeOf n 
         go true = q
         go false = refl
 
-    -- it is there
     pub insert-held : t ≡ true → Gives1 c a (inRoom (insertWithin (length a) n) c a)
-    insert-held q = unchanged (insertWithin (length a) n) c a h (within-same (is-held q))
+    insert-held q = unchanged (insertWithin (length a) n) c a (within-same (is-held q))
 
-    newest-held : t ≡ true → Gives1 c a (inRoom (newest (length a) n) c a)
-    newest-held q = unchanged (newest (length a) n) c a h (newest-few (length a) n (take c a) (omega (arith, ap length (is-held q), lc)) ∙ is-held q)
+    newest-held : c ≤ length a → t ≡ true → Gives1 c a (inRoom (newest (length a) n) c a)
+    newest-held h q = unchanged (newest (length a) n) c a (newest-few (length a) n (take c a) (omega (arith, ap length (is-held q), length-take c a)) ∙ is-held q)
 
     -- there is no room for it
-    pub insert-full : t ≡ false → c ≡ length a → Gives1 c a (inRoom (insertWithin (length a) n) c a)
+    pub insert-full : t ≡ false → length a ≤ c → Gives1 c a (inRoom (insertWithin (length a) n) c a)
     insert-full q f =
-        unchanged (insertWithin (length a) n) c a h
-        (ap (λ (b : Bool). cond b (insert n (take c a)) (take c a)) (lt-leb (length (insert n (take c a))) (length a) (omega (arith, new-length q))))
+        unchanged (insertWithin (length a) n) c a
+        (ap (λ (b : Bool). cond b (insert n (take c a)) (take c a)) (lt-leb (length (insert n (take c a))) (length a) (omega (arith, new-length q, length-take c a))))
 
     module _ (r : ℕ) (u : List ℕ) (k : (r ≡ c + 1) × (u ≡ over a c (putIn i n (take c a)))) (q : t ≡ false) (f : c < length a) where
       put-count : r ≡ length (insert n (take c a))
-      put-count = omega (arith, new-length q)
+      put-count = omega (arith, new-length q, length-take c a)
 
       put-room : u ≡ over a c (insert n (take c a))
       put-room = k .1 ∙ ap (over a c) (sym (is-new q))
@@ -142,18 +136,18 @@ module _ (c n i : ℕ) (a : List ℕ) (h : c ≤ length a) (e : i ≡ placeOf n 
       pub insert-put : Gives1 r u (inRoom (insertWithin (length a) n) c a)
       insert-put =
           let w : insertWithin (length a) n (take c a) ≡ insert n (take c a) =
-          ap (λ (b : Bool). cond b (insert n (take c a)) (take c a)) (le-leb (length (insert n (take c a))) (length a) (omega (arith, new-length q))) in
-          changed (insertWithin (length a) n) c a h r u (put-count ∙ ap length (sym w)) (put-room ∙ ap (over a c) (sym w))
+          ap (λ (b : Bool). cond b (insert n (take c a)) (take c a)) (le-leb (length (insert n (take c a))) (length a) (omega (arith, new-length q, length-take c a))) in
+          changed (insertWithin (length a) n) c a (omega arith) r u (put-count ∙ ap length (sym w)) (put-room ∙ ap (over a c) (sym w))
 
     module _ (q : t ≡ false) (f : c ≡ length a) where
       one-out : newest (length a) n (take c a) ≡ drop 1 (putIn i n (take c a))
       one-out =
-          let z : length (insert n (take c a)) - length a ≡ 1 = omega (arith, new-length q) in
+          let z : length (insert n (take c a)) - length a ≡ 1 = omega (arith, new-length q, length-take c a) in
           ap (λ (x : ℕ). drop x (insert n (take c a))) z ∙ ap (drop 1) (is-new q)
 
       -- it is the smallest itself
       newest-first : i ≡ 0 → Gives1 c a (inRoom (newest (length a) n) c a)
-      newest-first z = unchanged (newest (length a) n) c a h (one-out ∙ ap (λ (x : ℕ). drop 1 (putIn x n (take c a))) z)
+      newest-first z = unchanged (newest (length a) n) c a (one-out ∙ ap (λ (x : ℕ). drop 1 (putIn x n (take c a))) z)
 
       -- those below it move down by one
       newest-moved : (u : List ℕ) → 0 < i → u ≡ set (back 0 i a (dropped 1 (take (i - 0) (drop 0 a)))) (i - 1) n → Gives1 c u (inRoom (newest (length a) n) c a)
@@ -171,13 +165,13 @@ module _ (c n i : ℕ) (a : List ℕ) (h : c ≤ length a) (e : i ≡ placeOf n 
           rw (i0, m1, append-assoc (drop 1 (take i a)), set-at (drop 1 (take i a)) 0 (drop i a) n (i - 1) ld) in
           let nx : drop (max c c) a ≡ [] = done a (max c c) (omega arith) in
           let cc0 : c - c ≡ 0 = omega arith in
-          changed (newest (length a) n) c a h c u (sym (ap length o ∙ lo)) (w ∙ room ∙ sym (ap (over a c) o ∙ rw (lo, cc0, nx, append-nil)))
+          changed (newest (length a) n) c a (omega arith) c u (sym (ap length o ∙ lo)) (w ∙ room ∙ sym (ap (over a c) o ∙ rw (lo, cc0, nx, append-nil)))
 
 -- the newest, where there is room for one more
 pub newest-room : (c n : ℕ) (a : List ℕ) → c < length a → (r : ℕ) (u : List ℕ) → Gives1 r u (inRoom (insertWithin (length a) n) c a) → Gives1 r u (inRoom (newest (length a) n) c a)
 newest-room c n a h r u g =
     let f : length (insert n (take c a)) ≤ length a = omega (arith, insert-le n (take c a), length-take c a) in
-    as-well (newest (length a) n) c a (omega arith) (insertWithin (length a) n) r u g
+    alike (newest (length a) n) c a (insertWithin (length a) n) r u g
     (ap (λ (b : Bool). cond b (insert n (take c a)) (take c a)) (le-leb (length (insert n (take c a))) (length a) f) ∙ sym (newest-few (length a) n (take c a) f))
 
 -- and where there is none
@@ -201,11 +195,11 @@ module _ (c n i : ℕ) (a : List ℕ) (f : c ≡ length a) (e : i ≡ placeOf n 
   newest-same w = go t refl
     where
       go : (b : Bool) → t ≡ b → Gives1 c a (inRoom (newest (length a) n) c a)
-      go true q = newest-held c n i a fits at t is q
-      go false q = newest-first c n i a fits at t is q f (eqb-true i 0 (sym (or-no (eqb i 0)) ∙ ap (λ (x : Bool). eqb i 0 || x) (sym q) ∙ w))
+      go true q = newest-held c n i a at t is fits q
+      go false q = newest-first c n i a at t is q f (eqb-true i 0 (sym (or-no (eqb i 0)) ∙ ap (λ (x : Bool). eqb i 0 || x) (sym q) ∙ w))
 
   pub newest-other : (eqb i 0 || t) ≡ false → (u : List ℕ) → u ≡ set (back 0 i a (dropped 1 (take (i - 0) (drop 0 a)))) (i - 1) n → Gives1 c u (inRoom (newest (length a) n) c a)
-  newest-other w u k = newest-moved c n i a fits at t is (neither (eqb i 0) t w .1) f u (omega (arith, eqb-false i 0 (neither (eqb i 0) t w .0))) k
+  newest-other w u k = newest-moved c n i a at t is (neither (eqb i 0) t w .1) f u (omega (arith, eqb-false i 0 (neither (eqb i 0) t w .0))) k
 
   pub full-some : (eqb i 0 || t) ≡ false → 0 < i
   full-some w = omega (arith, eqb-false i 0 (neither (eqb i 0) t w .0))

@@ -72,17 +72,23 @@ module _ (f : List ℕ → List ℕ) (c : ℕ) (a : List ℕ) where
   pub past-room : length a < c → Gives1 c a (inRoom f c a)
   past-room h = rw (lt-leb c (length a) h) (record { result = refl; first = refl })
 
+  -- by another change, of which the same comes
+  pub alike : (g : List ℕ → List ℕ) (r : ℕ) (u : List ℕ) → Gives1 r u (inRoom g c a) → g (take c a) ≡ f (take c a) → Gives1 r u (inRoom f c a)
+  alike g r u p e = subst (λ (l : List ℕ). Gives1 r u (inRoom (λ _. l) c a)) e p
+
   module _ (h : c ≤ length a) where
     pub changed : (r : ℕ) (u : List ℕ) → r ≡ length (f (take c a)) → u ≡ over a c (f (take c a)) → Gives1 r u (inRoom f c a)
     changed r u e d = rw (le-leb c (length a) h) (record { result = e; first = d })
 
-    pub unchanged : f (take c a) ≡ take c a → Gives1 c a (inRoom f c a)
-    unchanged e = changed c a (sym (length-take-le c a h) ∙ ap length (sym e)) (room-same c a h ∙ ap (over a c) (sym e))
-
     pub as-well : (g : List ℕ → List ℕ) (r : ℕ) (u : List ℕ) → Gives1 r u (inRoom g c a) → g (take c a) ≡ f (take c a) → Gives1 r u (inRoom f c a)
-    as-well g r u p e =
-        let q : Gives1 r u (record { result = length (g (take c a)); first = over a c (g (take c a)) }) = rw (le-leb c (length a) h) at p in
-        changed r u (q .result ∙ ap length e) (q .first ∙ ap (over a c) e)
+    as-well = alike
+
+  pub unchanged : f (take c a) ≡ take c a → Gives1 c a (inRoom f c a)
+  unchanged e = go (leb c (length a)) refl
+    where
+      go : (t : Bool) → leb c (length a) ≡ t → Gives1 c a (inRoom f c a)
+      go true q = let h = leb-true c (length a) q in changed h c a (sym (length-take-le c a h) ∙ ap length (sym e)) (room-same c a h ∙ ap (over a c) (sym e))
+      go false q = past-room (leb-false c (length a) q)
 
 -- by a cut
 cut-past : (i k : ℕ) (l : List ℕ) → length l ≤ i → cutOut i k l ≡ l
@@ -99,14 +105,14 @@ cut-most i k gone l e = go (leb k (length l - i)) refl
 
 module _ (i k c : ℕ) (a : List ℕ) (h : c ≤ length a) where
   pub cut-none : c ≤ i → Gives1 c a (inRoom (cutOut i k) c a)
-  cut-none q = unchanged (cutOut i k) c a h (cut-past i k (take c a) (omega (arith, length-take-le c a h)))
+  cut-none q = unchanged (cutOut i k) c a (cut-past i k (take c a) (omega (arith, length-take-le c a h)))
 
   pub cut-some : (gone : ℕ) (u : List ℕ) → i < c → gone ≡ min k (c - i) → u ≡ back i c a (dropped gone (take (c - i) (drop i a))) → Gives1 (c - gone) u (inRoom (cutOut i k) c a)
   cut-some gone u q e w =
       let l = length-take-le c a h in
       let d : drop (i + gone) (take c a) ≡ drop (i + k) (take c a) = cut-most i k gone (take c a) (e ∙ ap (λ (x : ℕ). min k (x - i)) (sym l)) in
       let n : length (cutOut i gone (take c a)) ≡ c - gone = simp (length-append, length-take, length-drop) (omega arith) in
-      as-well (cutOut i k) c a h (cutOut i gone) (c - gone) u
+      alike (cutOut i k) c a (cutOut i gone) (c - gone) u
       (changed (cutOut i gone) c a h (c - gone) u (sym n) (w ∙ room-cut i gone c a (omega arith) h))
       (ap (λ (x : List ℕ). take i (take c a) ++ x) d)
 

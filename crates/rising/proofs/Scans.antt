@@ -208,6 +208,9 @@ take-min c s = go (leb c (length s)) refl
     go true e = let w = leb-true c (length s) e in let z : min c (length s) ≡ c = omega arith in ap (λ (k : ℕ). take k s) z
     go false e = let w = leb-false c (length s) e in take-all (min c (length s)) s (omega arith) ∙ sym (take-all c s (omega arith))
 
+pub take-within : (c : ℕ) (a : List ℕ) (e : ℕ) → e ≡ min c (length a) → take e a ≡ take c a
+take-within c a e h = ap (λ (k : ℕ). take k a) h ∙ take-min c a
+
 -- the first number from the place i on
 pub first-at : (l : List ℕ) (i : ℕ) → i < length l → getD l i 0 ≡ firstOr 0 (drop i l)
 first-at l i h = sym (ap (firstOr 0) (here l i h))

@@ -4,7 +4,7 @@ ghost use Prim.Native.Nat.{_≤_, _<_, _+_};
 ghost use lib.ListN.{length, take};
 ghost use Rattle.sets.specs.Sets.{has, smallest, firstOr};
 ghost use Rattle.numbers.specs.Promise.{Gives1};
-ghost use Rattle.rising.specs.Runs.{inRoom, cutOut, openedWithin, putIn, over, removed, fromOn, before, insertWithin, newest};
+ghost use Rattle.rising.specs.Runs.{placeOf, holdsAt, inRoom, cutOut, openedWithin, putIn, over, removed, fromOn, before, insertWithin, newest};
 use crate::run;
 use numbers::arith::smaller;
 
@@ -14,6 +14,22 @@ pub fn holds(s: &[u64], count: usize, n: u64) -> bool
 {
     let end = smaller(count, s.len());
     run::contains(&s[..end], n)
+}
+
+// The place of n in the run.
+fn place_within(s: &[u64], count: usize, n: u64) -> usize
+    ensures { λ r. ⌜ r ≡ placeOf n (take count (now (s .entry))) ⌝ }
+{
+    let end = smaller(count, s.len());
+    run::place(&s[..end], n)
+}
+
+// Whether n stands at place i of the run.
+fn held_at(s: &[u64], count: usize, i: usize, n: u64) -> bool
+    ensures { λ r. ⌜ r ≡ holdsAt n (take count (now (s .entry))) i ⌝ }
+{
+    let end = smaller(count, s.len());
+    run::holds_at(&s[..end], i, n)
 }
 
 // The first number of the run from n on; 0 where there is none.
@@ -57,11 +73,8 @@ pub fn open(s: &mut [u64], count: usize, i: usize, k: usize) -> usize
 pub fn remove(s: &mut [u64], count: usize, n: u64) -> usize
     ensures { λ r. ⌜ Gives1 r (now (s .exit)) (inRoom (removed n) count (now (s .entry))) ⌝ }
 {
-    if s.len() < count {
-        return count;
-    }
-    let i = run::place(&s[..count], n);
-    if run::holds_at(&s[..count], i, n) {
+    let i = place_within(s, count, n);
+    if held_at(s, count, i, n) {
         return cut(s, count, i, 1);
     }
     count
@@ -71,10 +84,7 @@ pub fn remove(s: &mut [u64], count: usize, n: u64) -> usize
 pub fn keep_from(s: &mut [u64], count: usize, n: u64) -> usize
     ensures { λ r. ⌜ Gives1 r (now (s .exit)) (inRoom (fromOn n) count (now (s .entry))) ⌝ }
 {
-    if s.len() < count {
-        return count;
-    }
-    let k = run::place(&s[..count], n);
+    let k = place_within(s, count, n);
     cut(s, count, 0, k)
 }
 
@@ -82,11 +92,8 @@ pub fn keep_from(s: &mut [u64], count: usize, n: u64) -> usize
 pub fn keep_before(s: &mut [u64], count: usize, n: u64) -> usize
     ensures { λ r. ⌜ Gives1 r (now (s .exit)) (inRoom (before n) count (now (s .entry))) ⌝ }
 {
-    if s.len() < count {
-        return count;
-    }
-    let i = run::place(&s[..count], n);
-    cut(s, count, i, count - i)
+    let i = place_within(s, count, n);
+    cut(s, count, i, count)
 }
 
 // The run with n at place i, where it has room.
@@ -103,11 +110,8 @@ fn put(s: &mut [u64], count: usize, i: usize, n: u64) -> usize
 pub fn insert(s: &mut [u64], count: usize, n: u64) -> usize
     ensures { λ r. ⌜ Gives1 r (now (s .exit)) (inRoom (insertWithin (length (now (s .entry))) n) count (now (s .entry))) ⌝ }
 {
-    if s.len() < count {
-        return count;
-    }
-    let i = run::place(&s[..count], n);
-    if run::holds_at(&s[..count], i, n) {
+    let i = place_within(s, count, n);
+    if held_at(s, count, i, n) {
         return count;
     }
     if count < s.len() {

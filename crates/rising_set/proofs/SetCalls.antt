@@ -129,8 +129,8 @@ module _ (w out v : List ℕ) (total n : ℕ) (u : List ℕ) (e : total ≡ leng
       g .first ∙ ap (over v (length v)) cut-is ∙ ap (λ (x : List ℕ). smallest (length out) w ++ (replicate (length v - length (smallest (length out) w)) 0 ++ x)) d
       ∙ ap (λ (x : List ℕ). smallest (length out) w ++ x) (append-nil (replicate (length v - length (smallest (length out) w)) 0) ∙ ap (λ (x : ℕ). replicate (x - length (smallest (length out) w)) 0) lv)
 
-  pub join-left : (total - n ≡ length w - length out) × (n ≤ total)
-  join-left = (omega (arith, join-count, length-take (length out) w), omega (arith, join-count, length-take (length out) w))
+  pub join-left : total - n ≡ length w - length out
+  join-left = omega (arith, join-count, length-take (length out) w)
 
 module _ (s : RisingSet) (room : List ℕ) (t : RisingSet) (other out : List ℕ) (a : Answer) (q : a ≡ answerOf (rowsOf (row 1 (not (isCoherent s room && isCoherent t other)) ∷ []))) where
   rows : Rows
@@ -161,15 +161,12 @@ module _ (s : RisingSet) (room : List ℕ) (t : RisingSet) (other out : List ℕ
     second-run = run-is 0 (t .count) other (and-right (isCoherent s room) (isCoherent t other) both)
 
     pub join-done : (total n : ℕ) (v u : List ℕ) → Gives1 total v (mergedInto (membersOf s room) (membersOf t other) out) → (m : ℕ) → m ≡ length v → Gives1 n u (inRoom (cutOut total m) m v)
-        → (n ≤ total) × Gives1 (record { answer = a; «left_out» = total - n; set = record { count = n } }) u (joinedOf s room t other out)
+        → Gives1 (record { answer = a; «left_out» = total - n; set = record { count = n } }) u (joinedOf s room t other out)
     unfolding rows
     join-done total n v u k m lm j =
         let w = merged-union 1 (membersOf s room) (membersOf t other) (first-run .rises .from) (second-run .rises .from) in
         let et : total ≡ length all = k .result ∙ ap length w in
         let ev : v ≡ filled all out = k .first ∙ ap (λ (x : List ℕ). filled x out) w in
         let j′ : Gives1 n u (inRoom (cutOut total (length v)) (length v) v) = subst (λ (x : ℕ). Gives1 n u (inRoom (cutOut total x) x v)) lm j in
-        let d = join-left all out v total n u et ev j′ in (
-          d .1,
-          gives1 (record { answer = a; «left_out» = total - n; set = record { count = n } }) u is-joined (joinedOf s room t other out) (is-done rows a q not-joined is-joined z)
-              (rw (done-is a z, d .0, join-count all out v total n u et ev j′)) (join-room all out v total n u et ev j′),
-        )
+        gives1 (record { answer = a; «left_out» = total - n; set = record { count = n } }) u is-joined (joinedOf s room t other out) (is-done rows a q not-joined is-joined z)
+        (rw (done-is a z, join-left all out v total n u et ev j′, join-count all out v total n u et ev j′)) (join-room all out v total n u et ev j′)

@@ -1,5 +1,6 @@
 // A set of sample numbers: the count in a small head by value, the numbers in lent room of any length. Each call checks what it is lent.
 ghost use mathlib.Core.Path.{_≡_};
+ghost use mathlib.Core.Bool.{not, _&&_};
 ghost use mathlib.Core.List.{[], _∷_};
 ghost use Prim.Native.Nat.{_-_};
 ghost use Rattle.numbers.specs.Promise.{Gives1};
@@ -11,6 +12,7 @@ use numbers::Cursor;
 use numbers::NextNumber;
 use numbers::Rows;
 use numbers::SequenceNumber;
+use numbers::arith::excess;
 use rising::room;
 use rising::run;
 
@@ -142,14 +144,21 @@ impl RisingSet {
         }
     }
 
-    // The members of two sets, in a room of their own: the smallest, as many as it holds.
-    pub fn join(self, s: &[u64], other: RisingSet, t: &[u64], out: &mut [u64]) -> Joined
-        ensures { λ r. ⌜ Gives1 r (now (out .exit)) (joinedOf self (now (s .entry)) other (now (t .entry)) (now (out .entry))) ⌝ }
+    // The answer of a call on two sets: 1 or done.
+    fn check_both(self, s: &[u64], other: RisingSet, t: &[u64]) -> Answer
+        ensures { λ r. ⌜ r ≡ answerOf (rowsOf (row 1 (not (isCoherent self (now (s .entry)) && isCoherent other (now (t .entry)))) ∷ [])) ⌝ }
     {
         let good = self.coherent(s) & other.coherent(t);
         let mut rows = Rows::none();
         rows.incoherent = !good;
-        let answer = Answer::of(rows);
+        Answer::of(rows)
+    }
+
+    // The members of two sets, in a room of their own: the smallest, as many as it holds.
+    pub fn join(self, s: &[u64], other: RisingSet, t: &[u64], out: &mut [u64]) -> Joined
+        ensures { λ r. ⌜ Gives1 r (now (out .exit)) (joinedOf self (now (s .entry)) other (now (t .entry)) (now (out .entry))) ⌝ }
+    {
+        let answer = self.check_both(s, other, t);
         if answer.number != 0 {
             return Joined {
                 answer,
@@ -162,9 +171,10 @@ impl RisingSet {
         let total = merge::merge(&s[..c], &t[..d], out);
         let room = out.len();
         let count = room::cut(out, room, total, room);
+        let left_out = excess(total, count);
         Joined {
             answer,
-            left_out: total - count,
+            left_out,
             set: RisingSet { count },
         }
     }

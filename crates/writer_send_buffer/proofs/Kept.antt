@@ -14,7 +14,6 @@ use Rattle.numbers.specs.Number.{rankOf}
 use Rattle.numbers.specs.Refusals.{answerOf, isDone, done}
 use Rattle.numbers.specs.declared.answer.Answer.{Answer}
 use Rattle.numbers.specs.declared.sequence_number.SequenceNumber.{SequenceNumber}
-use Rattle.numbers.proofs.Refused.{clear}
 use Rattle.writer_send_buffer.specs.declared.flow.WriterSendBuffer.{WriterSendBuffer}
 use Rattle.writer_send_buffer.specs.Flow.{Flow, fits, usedUp, admitted, trimmed, retained, ahead, stored, wakes, raised, evicted}
 use Rattle.reader_list.specs.Slots.{frontierOf}
@@ -23,7 +22,7 @@ use Rattle.writer_send_buffer.specs.Samples.{slotOf, bytesOf, over, leng
 use Rattle.writer_send_buffer.specs.History.{Lent, Call, admit, setAcked, setSent, removeBefore, leaves, wrote, run, history, Kept}
 use Rattle.writer_send_buffer.proofs.Lists.{slot-in}
 use Rattle.writer_send_buffer.proofs.Slots.{lt-or-ge, apart, over-length, over-same, over-other}
-use Rattle.writer_send_buffer.proofs.Sound.{holds, all-hold, Fits, Sound, sound-is, Writes, writes-is, slot-below, next-slot, length-fits, fit-of}
+use Rattle.writer_send_buffer.proofs.Sound.{holds, all-hold, Fits, Sound, sound-is, Writes, written-is, slot-below, next-slot, length-fits, fit-of}
 use Rattle.writer_send_buffer.proofs.Steps.{by-range, leftBy, view-form, form-coherent, After, after, fits-admitted, fits-stored, fits-raised, fits-evicted}
 
 -- ---- a retained sample of a coherent store is shown
@@ -233,7 +232,7 @@ kept-step l h k (admit p opted) = go (isDone (answerOf (writeRows (l .flow) (len
   where
     go : (t : Bool) → isDone (answerOf (writeRows (l .flow) (length (l .bytes)) (l .lens) (length p) opted)) ≡ t → Kept (leaves (admit p opted) l) (wrote (admit p opted) l h)
     go true e =
-        let w = writes-is (l .flow) (length (l .bytes)) (l .lens) (length p) opted (clear (writeRows (l .flow) (length (l .bytes)) (l .lens) (length p) opted) (answerOf (writeRows (l .flow) (length (l .bytes)) (l .lens) (length p) opted)) refl (eqb-true _ _ e)) in
+        let w = written-is (l .flow) (length (l .bytes)) (l .lens) (length p) opted (answerOf (writeRows (l .flow) (length (l .bytes)) (l .lens) (length p) opted)) refl (eqb-true _ _ e) in
         rw (e, next-slot (view (l .flow)) (view (l .flow) .last)) (kept-write l p opted w h k)
     go false e = rw (e, e) k
 kept-step l h k (setAcked a) =
@@ -249,7 +248,7 @@ coherent-step l k (admit p opted) = go (isDone (answerOf (writeRows (l .flow) (l
   where
     go : (t : Bool) → isDone (answerOf (writeRows (l .flow) (length (l .bytes)) (l .lens) (length p) opted)) ≡ t → Coh (leaves (admit p opted) l) (leaves (admit p opted) l .flow)
     go true e =
-        let w = writes-is (l .flow) (length (l .bytes)) (l .lens) (length p) opted (clear (writeRows (l .flow) (length (l .bytes)) (l .lens) (length p) opted) (answerOf (writeRows (l .flow) (length (l .bytes)) (l .lens) (length p) opted)) refl (eqb-true _ _ e)) in
+        let w = written-is (l .flow) (length (l .bytes)) (l .lens) (length p) opted (answerOf (writeRows (l .flow) (length (l .bytes)) (l .lens) (length p) opted)) refl (eqb-true _ _ e) in
         rw (e, next-slot (view (l .flow)) (view (l .flow) .last)) (coherent l p opted w)
     go false e = rw e k
 coherent-step l k (setAcked a) =

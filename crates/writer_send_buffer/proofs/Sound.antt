@@ -13,6 +13,7 @@ use Rattle.sets.proofs.Bools.{and-left, and-right, and-both}
 use Rattle.numbers.specs.Number.{rankOf, negative}
 use Rattle.numbers.specs.declared.sequence_number.SequenceNumber.{SequenceNumber}
 use Rattle.numbers.specs.Refusals.{answerOf, isDone, done}
+use Rattle.numbers.specs.declared.answer.Answer.{Answer}
 use Rattle.numbers.proofs.Refused.{Clear, clear}
 use Rattle.writer_send_buffer.specs.declared.limits.Limits.{Limits}
 use Rattle.writer_send_buffer.specs.declared.flow.WriterSendBuffer.{WriterSendBuffer}
@@ -143,6 +144,10 @@ writes-is f space lens len opted c =
       slot-free = c .store-full;
     }
 
+pub written-is : (f : WriterSendBuffer) (space : ℕ) (lens : List ℕ) (len : ℕ) (opted : Bool) (a : Answer) → a ≡ answerOf (writeRows f space lens len opted) → a .number ≡ 0
+    → Writes f space lens len opted
+written-is f space lens len opted a q e = writes-is f space lens len opted (clear (writeRows f space lens len opted) a q e)
+
 -- ---- slots
 pub slot-below : (f : WriterSendBuffer) (m : ℕ) → Allowed (f .limits) → m % f .limits .slots < f .limits .slots
 slot-below f m a = mod-lt m (a .slots-some)
@@ -182,6 +187,9 @@ fetches-is f space lens n c =
       high = leb-true _ _ (and-right (leb (rankOf (f .first)) (rankOf n)) (leb (rankOf n) (rankOf (f .last))) r);
     }
 
+pub fetched-is : (f : WriterSendBuffer) (space : ℕ) (lens : List ℕ) (n : SequenceNumber) (a : Answer) → a ≡ answerOf (fetchRows f space lens n) → a .number ≡ 0 → Fetches f space lens (rankOf n)
+fetched-is f space lens n a q e = fetches-is f space lens n (clear (fetchRows f space lens n) a q e)
+
 module _ (f : WriterSendBuffer) (space : ℕ) (lens : List ℕ) (so : Sound f space lens) (n : ℕ) (low : rankOf (f .first) ≤ n) (high : n ≤ rankOf (f .last)) where
   pub length-fits : getD lens (slotOf (view f) n) 0 ≤ f .limits .«slot_bytes»
   length-fits =
@@ -206,7 +214,7 @@ module _ (f : WriterSendBuffer) (space : ℕ) (lens : List ℕ) (n : SequenceNum
     where
       go : (t : Bool) → isDone (answerOf (fetchRows f space lens n)) ≡ t → cond t found gone .start + cond t found gone .length ≤ space
       go true e =
-          let k = fetches-is f space lens n (clear (fetchRows f space lens n) (answerOf (fetchRows f space lens n)) refl (eqb-true _ _ e)) in
+          let k = fetched-is f space lens n (answerOf (fetchRows f space lens n)) refl (eqb-true _ _ e) in
           sample-in f space lens (k .sound) (rankOf n) (k .low) (k .high)
       go false e = omega arith
 

@@ -1,9 +1,11 @@
 // The flow record by value: what is coherent, and what a write is answered.
 ghost use mathlib.Core.Path.{_≡_};
+ghost use mathlib.Core.Bool.{cond};
 ghost use Prim.Native.Nat.{_-_, _<_, _^_};
-ghost use Rattle.numbers.specs.Refusals.{answerOf};
+ghost use Rattle.numbers.specs.Number.{rankOf};
+ghost use Rattle.numbers.specs.Refusals.{answerOf, isDone, done};
 ghost use Rattle.writer_send_buffer.specs.Flow.{room, trims, full, trimmed, admitRows, admitted};
-ghost use Rattle.writer_send_buffer.specs.Buffer.{view, form, isCoherent, limited, ranged, newOf, roomOf, firstOf, lastOf};
+ghost use Rattle.writer_send_buffer.specs.Buffer.{view, form, isCoherent, limited, ranged, newOf, questioned, noNumber, roomOf, firstOf, lastOf};
 use crate::limits::Kind;
 use crate::limits::Limits;
 use numbers::Answer;
@@ -45,22 +47,20 @@ pub struct Moved {
     pub flow: WriterSendBuffer,
 }
 
+// The record's numbers as natural numbers.
+pub struct Ranks {
+    pub last: u64,
+    pub first: u64,
+    pub sent: u64,
+    pub acked: u64,
+}
+
 // The answer of a call that a limit alone can refuse.
 fn limit_answer(limit: bool) -> Answer
     ensures { λ r. ⌜ r ≡ answerOf (limited limit) ⌝ }
 {
     let mut rows = Rows::none();
     rows.limit = limit;
-    Answer::of(rows)
-}
-
-// The answer of a call that is refused where the record isn't coherent, or a number is out of its range.
-pub fn range_answer(coherent: bool, range: bool) -> Answer
-    ensures { λ r. ⌜ r ≡ answerOf (ranged coherent range) ⌝ }
-{
-    let mut rows = Rows::none();
-    rows.incoherent = !coherent;
-    rows.range = range;
     Answer::of(rows)
 }
 
@@ -92,27 +92,60 @@ impl WriterSendBuffer {
         }
     }
 
-    pub fn is_coherent(self) -> bool
-        ensures { λ r. ⌜ r ≡ isCoherent self ⌝ }
+    pub(crate) fn ranks(self) -> Ranks
+        ensures { λ r. ⌜ (r ≡ record { last = rankOf (self .last); first = rankOf (self .first); sent = rankOf (self .sent); acked = rankOf (self .acked) }) × (r .last < 2 ^ 63) ⌝ }
     {
         let last = self.last.rank();
         let first = self.first.rank();
         let sent = self.sent.rank();
         let acked = self.acked.rank();
+        Ranks {
+            last,
+            first,
+            sent,
+            acked,
+        }
+    }
+
+    pub fn is_coherent(self) -> bool
+        ensures { λ r. ⌜ r ≡ isCoherent self ⌝ }
+    {
+        let n = self.ranks();
         let last_below = self.last.is_negative();
         let sent_below = self.sent.is_negative();
         let limits = self.limits;
         let allowed = limits.are_allowed();
         let slots = limits.slots;
-        let held = above(last + 1, first);
+        let held = above(n.last + 1, n.first);
         !last_below
             & (!sent_below
-                & ((last <= SequenceNumber::LAST)
-                    & ((1 <= first)
-                        & ((first <= last + 1)
+                & ((n.last <= SequenceNumber::LAST)
+                    & ((1 <= n.first)
+                        & ((n.first <= n.last + 1)
                             & ((held <= slots)
-                                & ((sent <= last)
-                                    & ((1 <= acked) & ((acked <= last + 1) & allowed))))))))
+                                & ((n.sent <= n.last)
+                                    & ((1 <= n.acked) & ((n.acked <= n.last + 1) & allowed))))))))
+    }
+
+    // The answer of a call that is refused where the record isn't coherent, or a number is out of its range.
+    pub(crate) fn asked(self, range: bool) -> Answer
+        ensures { λ r. ⌜ r ≡ answerOf (ranged (isCoherent self) range) ⌝ }
+    {
+        let coherent = self.is_coherent();
+        let mut rows = Rows::none();
+        rows.incoherent = !coherent;
+        rows.range = range;
+        Answer::of(rows)
+    }
+
+    // What the record is after a call: the next, or where the call is refused the same.
+    pub(crate) fn unless_refused(self, answer: Answer, next: WriterSendBuffer) -> WriterSendBuffer
+        ensures { λ r. ⌜ r ≡ cond (isDone answer) next self ⌝ }
+    {
+        if answer.number != 0 {
+            return self;
+        }
+        next
     }
 
     // A new writer's record.
@@ -146,11 +179,9 @@ impl WriterSendBuffer {
     pub fn room_for(self, opted: bool) -> bool
         ensures { λ r. ⌜ r ≡ room (view self) opted ⌝ }
     {
-        let last = self.last.rank();
-        let sent = self.sent.rank();
-        let acked = self.acked.rank();
-        let unsent = above(last, sent);
-        let unacked = above(last + 1, acked);
+        let n = self.ranks();
+        let unsent = above(n.last, n.sent);
+        let unacked = above(n.last + 1, n.acked);
         let kind = self.kind;
         let limits = self.limits;
         let backlog = limits.backlog;
@@ -173,9 +204,8 @@ impl WriterSendBuffer {
     pub fn full_for(self, opted: bool) -> bool
         ensures { λ r. ⌜ r ≡ full (view self) opted ⌝ }
     {
-        let last = self.last.rank();
-        let first = self.first.rank();
-        let held = above(last + 1, first);
+        let n = self.ranks();
+        let held = above(n.last + 1, n.first);
         let trimmed = self.trims_for(opted);
         let limits = self.limits;
         let slots = limits.slots;
@@ -204,14 +234,13 @@ impl WriterSendBuffer {
     fn first_after(self, opted: bool) -> u64
         ensures { λ r. ⌜ r ≡ trimmed (view self) opted ⌝ }
     {
-        let last = self.last.rank();
-        let first = self.first.rank();
+        let n = self.ranks();
         let limits = self.limits;
-        let kept = above(last + 2, limits.retain);
+        let kept = above(n.last + 2, limits.retain);
         if self.trims_for(opted) {
-            larger(first, kept)
+            larger(n.first, kept)
         } else {
-            first
+            n.first
         }
     }
 
@@ -219,53 +248,56 @@ impl WriterSendBuffer {
     pub fn after(self, opted: bool) -> WriterSendBuffer
         ensures { λ r. ⌜ r ≡ form (admitted (view self) opted) ⌝ }
     {
-        let last = self.last.rank();
+        let n = self.ranks();
         let first = self.first_after(opted);
-        let sent = self.sent.rank();
-        let acked = self.acked.rank();
         let kind = self.kind;
         let limits = self.limits;
-        WriterSendBuffer::formed(last + 1, first, sent, acked, self.present, kind, limits)
+        WriterSendBuffer::formed(
+            n.last + 1,
+            first,
+            n.sent,
+            n.acked,
+            self.present,
+            kind,
+            limits,
+        )
     }
 
     // Room for one more sample, as a question of its own.
     pub fn has_room(self, opted: bool) -> Told
         ensures { λ r. ⌜ r ≡ roomOf self opted ⌝ }
     {
-        let coherent = self.is_coherent();
-        let answer = range_answer(coherent, false);
-        if answer.number != 0 {
-            return Told { answer, yes: false };
+        let answer = self.asked(false);
+        let room = self.room_for(opted);
+        Told {
+            answer,
+            yes: (answer.number == 0) & room,
         }
-        let yes = self.room_for(opted);
-        Told { answer, yes }
     }
 
     // The oldest number retained; last + 1 where none is.
     pub fn first_change_sequence_number(self) -> Numbered
         ensures { λ r. ⌜ r ≡ firstOf self ⌝ }
     {
-        let coherent = self.is_coherent();
-        let answer = range_answer(coherent, false);
-        if answer.number != 0 {
-            let number = SequenceNumber::from_rank(0);
-            return Numbered { answer, number };
-        }
-        let number = self.first;
-        Numbered { answer, number }
+        self.told_number(self.first)
     }
 
     // The newest number written; 0 where none is.
     pub fn last_change_sequence_number(self) -> Numbered
         ensures { λ r. ⌜ r ≡ lastOf self ⌝ }
     {
-        let coherent = self.is_coherent();
-        let answer = range_answer(coherent, false);
+        self.told_number(self.last)
+    }
+
+    // A question that a number answers.
+    fn told_number(self, number: SequenceNumber) -> Numbered
+        ensures { λ r. ⌜ r ≡ questioned self noNumber (record { answer = done; number = number }) ⌝ }
+    {
+        let answer = self.asked(false);
         if answer.number != 0 {
             let number = SequenceNumber::from_rank(0);
             return Numbered { answer, number };
         }
-        let number = self.last;
         Numbered { answer, number }
     }
 }

@@ -1,10 +1,10 @@
 // The frontiers and eviction, by value.
 ghost use mathlib.Core.Path.{_≡_};
-ghost use Rattle.writer_send_buffer.specs.Buffer.{ackedOf, sentOf, evictOf, throughOf, woken, moved};
+ghost use Rattle.writer_send_buffer.specs.Flow.{wakes, stored};
+ghost use Rattle.writer_send_buffer.specs.Buffer.{view, form, ackedOf, sentOf, evictOf, throughOf, woken, moved};
 use crate::flow::Moved;
 use crate::flow::Told;
 use crate::flow::WriterSendBuffer;
-use crate::flow::range_answer;
 use numbers::SequenceNumber;
 use numbers::arith::larger;
 use reader_list::AckedFrontier;
@@ -17,41 +17,45 @@ pub struct Woken {
 }
 
 impl WriterSendBuffer {
+    // Whether a frontier wakes who waits; 0 stands for an absent one.
+    fn frontier_wakes(self, a: u64) -> bool
+        ensures { λ r. ⌜ r ≡ wakes a (view self) ⌝ }
+    {
+        let present = self.present;
+        let acked = self.acked.rank();
+        if a == 0 {
+            return present;
+        }
+        !present | (acked < a)
+    }
+
+    // The record with the frontier stored.
+    fn frontier_stored(self, a: u64) -> WriterSendBuffer
+        ensures { λ r. ⌜ r ≡ form (stored a (view self)) ⌝ }
+    {
+        let n = self.ranks();
+        let kind = self.kind;
+        let limits = self.limits;
+        if a == 0 {
+            return WriterSendBuffer::formed(n.last, n.first, n.sent, n.acked, false, kind, limits);
+        }
+        WriterSendBuffer::formed(n.last, n.first, n.sent, a, true, kind, limits)
+    }
+
     // The acknowledgement frontier stored: it may lower.
     pub fn with_acked_frontier(self, frontier: AckedFrontier) -> Woken
         ensures { λ r. ⌜ r ≡ woken (ackedOf self frontier) ⌝ }
     {
         let a = frontier.rank();
         let last = self.last.rank();
-        let acked = self.acked.rank();
-        let coherent = self.is_coherent();
-        let answer = range_answer(coherent, last + 1 < a);
-        if answer.number != 0 {
-            return Woken {
-                told: Told { answer, yes: false },
-                flow: self,
-            };
-        }
-        let present = self.present;
-        let kind = self.kind;
-        let limits = self.limits;
-        let first = self.first.rank();
-        let sent = self.sent.rank();
-        if a == 0 {
-            let flow = WriterSendBuffer::formed(last, first, sent, acked, false, kind, limits);
-            return Woken {
-                told: Told {
-                    answer,
-                    yes: present,
-                },
-                flow,
-            };
-        }
-        let flow = WriterSendBuffer::formed(last, first, sent, a, true, kind, limits);
+        let answer = self.asked(last + 1 < a);
+        let wakes = self.frontier_wakes(a);
+        let next = self.frontier_stored(a);
+        let flow = self.unless_refused(answer, next);
         Woken {
             told: Told {
                 answer,
-                yes: !present | (acked < a),
+                yes: (answer.number == 0) & wakes,
             },
             flow,
         }
@@ -62,26 +66,25 @@ impl WriterSendBuffer {
         ensures { λ r. ⌜ r ≡ woken (sentOf self number) ⌝ }
     {
         let k = number.rank();
-        let last = self.last.rank();
-        let sent = self.sent.rank();
-        let coherent = self.is_coherent();
-        let answer = range_answer(coherent, last < k);
-        if answer.number != 0 {
-            return Woken {
-                told: Told { answer, yes: false },
-                flow: self,
-            };
-        }
-        let first = self.first.rank();
-        let acked = self.acked.rank();
+        let n = self.ranks();
+        let answer = self.asked(n.last < k);
         let kind = self.kind;
         let limits = self.limits;
-        let raised = larger(sent, k);
-        let flow = WriterSendBuffer::formed(last, first, raised, acked, self.present, kind, limits);
+        let raised = larger(n.sent, k);
+        let next = WriterSendBuffer::formed(
+            n.last,
+            n.first,
+            raised,
+            n.acked,
+            self.present,
+            kind,
+            limits,
+        );
+        let flow = self.unless_refused(answer, next);
         Woken {
             told: Told {
                 answer,
-                yes: sent < k,
+                yes: (answer.number == 0) & (n.sent < k),
             },
             flow,
         }
@@ -92,19 +95,21 @@ impl WriterSendBuffer {
         ensures { λ r. ⌜ r ≡ moved (evictOf self before) ⌝ }
     {
         let k = before.rank();
-        let last = self.last.rank();
-        let first = self.first.rank();
-        let coherent = self.is_coherent();
-        let answer = range_answer(coherent, last + 1 < k);
-        if answer.number != 0 {
-            return Moved { answer, flow: self };
-        }
-        let sent = self.sent.rank();
-        let acked = self.acked.rank();
+        let n = self.ranks();
+        let answer = self.asked(n.last + 1 < k);
         let kind = self.kind;
         let limits = self.limits;
-        let start = larger(first, k);
-        let flow = WriterSendBuffer::formed(last, start, sent, acked, self.present, kind, limits);
+        let start = larger(n.first, k);
+        let next = WriterSendBuffer::formed(
+            n.last,
+            start,
+            n.sent,
+            n.acked,
+            self.present,
+            kind,
+            limits,
+        );
+        let flow = self.unless_refused(answer, next);
         Moved { answer, flow }
     }
 
@@ -114,14 +119,10 @@ impl WriterSendBuffer {
     {
         let t = number.rank();
         let acked = self.acked.rank();
-        let coherent = self.is_coherent();
-        let answer = range_answer(coherent, false);
-        if answer.number != 0 {
-            return Told { answer, yes: false };
-        }
+        let answer = self.asked(false);
         Told {
             answer,
-            yes: !self.present | (t < acked),
+            yes: (answer.number == 0) & (!self.present | (t < acked)),
         }
     }
 }

@@ -4,8 +4,7 @@ ghost use Prim.Native.Nat.{_*_};
 ghost use lib.ListN.{length, set};
 ghost use Rattle.numbers.specs.Refusals.{answerOf};
 ghost use Rattle.numbers.specs.Promise.{Gives2};
-ghost use Rattle.writer_send_buffer.specs.Buffer.{fetched};
-ghost use Rattle.writer_send_buffer.specs.Samples.{Run, Slot, over, lengthsFit, isCoherentStore, admitOf, handed, locateOf, fetchOf};
+ghost use Rattle.writer_send_buffer.specs.Samples.{Run, Slot, over, lengthsFit, isCoherentStore, writeRows, admitOf, handed, fetchRows, locateOf, fetchOf};
 use crate::flow::Numbered;
 use crate::flow::WriterSendBuffer;
 use numbers::Answer;
@@ -70,16 +69,6 @@ fn put_in(store: &mut [u8], lens: &mut [u64], payload: &[u8], slot: usize, bytes
     lens[slot] = payload.len() as u64;
 }
 
-// The answer of a fetch.
-fn fetch_answer(coherent: bool, there: bool) -> Answer
-    ensures { λ r. ⌜ r ≡ answerOf (fetched coherent there) ⌝ }
-{
-    let mut rows = Rows::none();
-    rows.incoherent = !coherent;
-    rows.nothing = !there;
-    Answer::of(rows)
-}
-
 impl WriterSendBuffer {
     // Whether the record, a store of `room` bytes and the lengths are coherent.
     pub fn is_coherent_store(self, room: usize, lens: &[u64]) -> bool
@@ -102,6 +91,28 @@ impl WriterSendBuffer {
         lengths_fit(lens, first - 1, above(last + 1, first), limits.slot_bytes)
     }
 
+    // The answer of a fetch.
+    fn fetch_answer(self, room: usize, lens: &[u64], number: SequenceNumber) -> Answer
+        ensures { λ r. ⌜ r ≡ answerOf (fetchRows self room (now (lens .entry)) number) ⌝ }
+    {
+        let n = number.rank();
+        let last = self.last.rank();
+        let first = self.first.rank();
+        let coherent = self.is_coherent_store(room, lens);
+        let mut rows = Rows::none();
+        rows.incoherent = !coherent;
+        rows.nothing = !((first <= n) & (n <= last));
+        Answer::of(rows)
+    }
+
+    // The answer of a write of `len` bytes.
+    fn write_answer(self, room: usize, lens: &[u64], len: usize, opted: bool) -> Answer
+        ensures { λ r. ⌜ r ≡ answerOf (writeRows self room (now (lens .entry)) len opted) ⌝ }
+    {
+        let coherent = self.is_coherent_store(room, lens);
+        self.admission(coherent, len, opted)
+    }
+
     // A write: the payload is copied into its slot, and the number is the next; or it is refused, and nothing changes.
     pub fn with_sample(
         self,
@@ -112,8 +123,7 @@ impl WriterSendBuffer {
     ) -> Admitted
         ensures { λ r. ⌜ Gives2 r (now (store .exit)) (now (lens .exit)) (handed (admitOf self (now (store .entry)) (now (lens .entry)) (now (payload .entry)) opted)) ⌝ }
     {
-        let coherent = self.is_coherent_store(store.len(), lens);
-        let answer = self.admission(coherent, payload.len(), opted);
+        let answer = self.write_answer(store.len(), lens, payload.len(), opted);
         if answer.number != 0 {
             let number = SequenceNumber::from_rank(0);
             return Admitted {
@@ -138,10 +148,7 @@ impl WriterSendBuffer {
         ensures { λ r. ⌜ r ≡ locateOf self room (now (lens .entry)) number ⌝ }
     {
         let n = number.rank();
-        let last = self.last.rank();
-        let first = self.first.rank();
-        let coherent = self.is_coherent_store(room, lens);
-        let answer = fetch_answer(coherent, (first <= n) & (n <= last));
+        let answer = self.fetch_answer(room, lens, number);
         if answer.number != 0 {
             return Located {
                 answer,

@@ -1,7 +1,6 @@
 -- `front_end` meets its contract. Assumes nothing.
-use mathlib.Core.Path.{_≡_, ap, _∙_}
-use mathlib.Core.Bool.{Bool, false}
-use Rattle.numbers.specs.Refusals.{answerOf, done}
+use mathlib.Core.Bool.{false}
+use Rattle.numbers.specs.Refusals.{done}
 use Rattle.numbers.proofs.Refused.{is-refused, is-done, done-is}
 use Rattle.reader_list.specs.Slots.{listed, frontierAt}
 use Rattle.reader_list.specs.Walk.{isWhole}
@@ -9,9 +8,6 @@ use Rattle.reader_list.specs.declared.calls.Front.{Front}
 use borrow.Author.Needs.{needs}
 use Rattle.reader_list.proofs.ends.front_end.Statement.{statement}
 use Rattle.reader_list.proofs.ends.front_end.Tie as tie
-
-is-whole-requires : tie.Need-is-whole-requires
-is-whole-requires c κs = search needs
 
 list-answer-requires : tie.Need-list-answer-requires
 list-answer-requires c κs = search needs
@@ -21,31 +17,25 @@ from-rank-requires c κs = search needs
 
 returns : tie.Need-returns
 returns c =
-    let s = c .before .before .before .before .before .args .s in
-    let q : c .before .before .before .list-answer .result ≡ answerOf (listed false (isWhole s) false false false) = c .before .before .before .list-answer .ensures ∙ ap (λ (b : Bool). answerOf (listed false b false false false)) (c .before .before .before .before .is-whole .ensures) in
-    rw (c .from-rank .ensures) (is-refused {A = Front} (listed false (isWhole s) false false false) (c .before .before .before .list-answer .result) q (λ no. record { answer = no; frontier = frontierAt 0 }) (record { answer = done; frontier = frontierAt (s .front) }) (c .before .if1 .taken))
+    let args = c .before .before .before .before .args in
+    let list-answer = c .before .before .before .list-answer in
+    let s = args .s in
+    rw (c .from-rank .ensures) (is-refused {A = Front} (listed false (isWhole s) false false false) (list-answer .result) (list-answer .ensures) (λ no. record { answer = no; frontier = frontierAt 0 })
+    (record { answer = done; frontier = frontierAt (s .front) }) (c .before .if1 .taken))
 
 from-rank-requires-2 : tie.Need-from-rank-requires-2
 from-rank-requires-2 c κs = search needs
 
 returns-2 : tie.Need-returns-2
 returns-2 c =
-    let args = c .before .before .before .before .before .args in
-    let is-whole = c .before .before .before .before .is-whole in
+    let args = c .before .before .before .before .args in
     let list-answer = c .before .before .before .list-answer in
-    let if1 = c .before .if1 in
     let s = args .s in
-    let q : list-answer .result ≡ answerOf (listed false (isWhole s) false false false) = list-answer .ensures ∙ ap (λ (b : Bool). answerOf (listed false b false false false)) (is-whole .ensures) in
-    rw (done-is (list-answer .result) (if1 .left), c .from-rank2 .ensures)
-    (is-done {A = Front} (listed false (isWhole s) false false false) (list-answer .result) q (λ no. record { answer = no; frontier = frontierAt 0 }) (record { answer = done; frontier = frontierAt (s .front) }) (if1 .left))
+    rw (done-is (list-answer .result) (c .before .if1 .left), c .from-rank2 .ensures)
+    (is-done {A = Front} (listed false (isWhole s) false false false) (list-answer .result) (list-answer .ensures) (λ no. record { answer = no; frontier = frontierAt 0 })
+    (record { answer = done; frontier = frontierAt (s .front) }) (c .before .if1 .left))
 
 pub front-end-spec : {M : Type 1} → statement M
 front-end-spec =
     tie.close
-    (tie.spec
-    is-whole-requires
-    list-answer-requires
-    from-rank-requires
-    returns
-    from-rank-requires-2
-    returns-2)
+    (tie.spec list-answer-requires from-rank-requires returns from-rank-requires-2 returns-2)

@@ -7,14 +7,10 @@ use lib.ListN.{length, take, drop, getD}
 use lib.Seq.{length-take-le, getD-take}
 use Rattle.sets.specs.Sets.{firstOr}
 use Rattle.rising.specs.Runs.{fromOn, placeOf}
-use Rattle.rising.proofs.Scans.{take-min, first-at, first-none}
+use Rattle.rising.proofs.Scans.{take-within, first-at, first-none}
 use borrow.Author.Needs.{needs}
 use Rattle.rising.proofs.room.first_from.Statement.{statement}
 use Rattle.rising.proofs.room.first_from.Tie as tie
-use Rattle.rising.proofs.room.first_from.Reads as reads
-use Rattle.rising.proofs.room.first_from.Lts as lts
-use Rattle.rising.proofs.run.place.Reads as place-reads
-use Rattle.numbers.proofs.arith.smaller.Reads as smaller-reads
 
 smaller-requires : tie.Need-smaller-requires
 smaller-requires c κs = search needs
@@ -40,7 +36,7 @@ returns c =
     let l = take (smaller .result) (args .s .now) in
     let n : length l ≡ smaller .result = length-take-le (smaller .result) (args .s .now) (omega (arith, smaller .ensures)) in
     sym (getD-take (smaller .result) (args .s .now) (place .result) 0 (if1 .taken)) ∙ first-at l (place .result) (omega arith)
-    ∙ ap (λ (i : ℕ). firstOr 0 (drop i l)) (place .ensures) ∙ ap (λ (x : List ℕ). firstOr 0 (fromOn (args .n) x)) (ap (λ (k : ℕ). take k (args .s .now)) (smaller .ensures) ∙ take-min (args .count) (args .s .now))
+    ∙ ap (λ (i : ℕ). firstOr 0 (drop i l)) (place .ensures) ∙ ap (λ (x : List ℕ). firstOr 0 (fromOn (args .n) x)) (take-within (args .count) (args .s .now) (smaller .result) (smaller .ensures))
 
 returns-2 : tie.Need-returns-2
 returns-2 c =
@@ -50,7 +46,7 @@ returns-2 c =
     let l = take (smaller .result) (args .s .now) in
     let n : length l ≡ smaller .result = length-take-le (smaller .result) (args .s .now) (omega (arith, smaller .ensures)) in
     first-none l (place .result) (omega arith)
-    ∙ ap (λ (i : ℕ). firstOr 0 (drop i l)) (place .ensures) ∙ ap (λ (x : List ℕ). firstOr 0 (fromOn (args .n) x)) (ap (λ (k : ℕ). take k (args .s .now)) (smaller .ensures) ∙ take-min (args .count) (args .s .now))
+    ∙ ap (λ (i : ℕ). firstOr 0 (drop i l)) (place .ensures) ∙ ap (λ (x : List ℕ). firstOr 0 (fromOn (args .n) x)) (take-within (args .count) (args .s .now) (smaller .result) (smaller .ensures))
 
 pub first-from-spec : {M : Type 1} → statement M
 first-from-spec =

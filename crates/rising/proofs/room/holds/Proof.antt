@@ -6,7 +6,7 @@ use native.Mathlib.Omega.{arith}
 use lib.ListN.{length, take}
 use lib.Seq.{length-take-le}
 use Rattle.sets.specs.Sets.{has}
-use Rattle.rising.proofs.Scans.{take-min}
+use Rattle.rising.proofs.Scans.{take-within}
 use borrow.Author.Needs.{needs}
 use Rattle.rising.proofs.room.holds.Statement.{statement}
 use Rattle.rising.proofs.room.holds.Tie as tie
@@ -24,7 +24,7 @@ returns : tie.Need-returns
 returns c =
     let args = c .before .before .before .before .args in
     let smaller = c .before .before .smaller in
-    c .contains .ensures ∙ ap (λ (l : List ℕ). has l (args .n)) (ap (λ (k : ℕ). take k (args .s .now)) (smaller .ensures) ∙ take-min (args .count) (args .s .now))
+    c .contains .ensures ∙ ap (λ (l : List ℕ). has l (args .n)) (take-within (args .count) (args .s .now) (smaller .result) (smaller .ensures))
 
 pub holds-spec : {M : Type 1} → statement M
 holds-spec =

@@ -1,97 +1,65 @@
 -- `insert` meets its contract. Assumes nothing.
-use Prim.Native.Nat.{ℕ, _≤_, _<_, _+_, _-_}
-use mathlib.Core.Path.{_≡_, refl, sym, ap, _∙_}
-use mathlib.Core.List.{List}
 use native.Mathlib.Omega.{arith}
-use lib.ListN.{length, take, drop, set}
-use lib.Seq.{length-take-le}
-use Rattle.rising.specs.Runs.{removed, fromOn, before, cutOut}
-use Rattle.rising.proofs.Rooms.{past-room, changed, unchanged, as-well, back, cut-none, cut-some, open-done, put-done}
-use Rattle.rising.proofs.Inserts.{place-in, removed-held, removed-none, from-is, before-is, insert-held, insert-full, insert-put}
+use Rattle.rising.proofs.Inserts.{place-in, insert-held, insert-full, insert-put}
 use borrow.Author.Needs.{needs}
 use Rattle.rising.proofs.room.insert.Statement.{statement}
 use Rattle.rising.proofs.room.insert.Tie as tie
 
-returns : tie.Need-returns
-returns c = search (needs, past-room)
+place-within-requires : tie.Need-place-within-requires
+place-within-requires c κs = search needs
 
-slice-reshare-prefix-place : tie.Need-slice-reshare-prefix-place
-slice-reshare-prefix-place c = search needs
-
-slice-aggregate-place : tie.Need-slice-aggregate-place
-slice-aggregate-place c = sym (length-take-le (c .before .before .before .args .count) (c .before .before .before .args .s .now) (omega arith))
-
-place-requires : tie.Need-place-requires
-place-requires c κs = search needs
-
-slice-reshare-prefix-holds-at : tie.Need-slice-reshare-prefix-holds-at
-slice-reshare-prefix-holds-at c = search needs
-
-slice-aggregate-holds-at : tie.Need-slice-aggregate-holds-at
-slice-aggregate-holds-at c = sym (length-take-le (c .before .before .before .before .before .args .count) (c .before .before .before .before .before .args .s .now) (omega arith))
-
-holds-at-requires : tie.Need-holds-at-requires
-holds-at-requires c κs = search needs
+held-at-requires : tie.Need-held-at-requires
+held-at-requires c κs = search needs
 
 same-length : tie.Need-same-length
 same-length c = search needs
 
-returns-2 : tie.Need-returns-2
-returns-2 c =
-    let args = c .before .before .before .before .before .before .before .args in
-    let if1 = c .before .before .before .before .before .if1 in
-    let place = c .before .before .before .place in
-    let holds-at = c .before .holds-at in
-    insert-held (args .count) (args .n) (place .result) (args .s .now) (if1 .left) (place .ensures) (holds-at .result) (holds-at .ensures) (c .if2 .taken)
+returns : tie.Need-returns
+returns c =
+    let args = c .before .before .before .before .before .before .args in
+    let place-within = c .before .before .before .place-within in
+    let held-at = c .before .held-at in
+    insert-held (args .count) (args .n) (place-within .result) (args .s .now) (place-within .ensures) (held-at .result) (held-at .ensures) (c .if1 .taken)
 
 put-requires : tie.Need-put-requires
 put-requires c κs =
-    let args = c .before .before .before .before .before .before .before .before .before .args in
-    let if1 = c .before .before .before .before .before .before .before .if1 in
-    let place = c .before .before .before .before .before .place in
-    (place-in (args .count) (args .n) (place .result) (args .s .now) (if1 .left) (place .ensures), search needs)
+    let args = c .before .before .before .before .before .before .before .before .args in
+    let place-within = c .before .before .before .before .before .place-within in
+    (place-in (args .count) (args .n) (place-within .result) (args .s .now) (place-within .ensures), search needs)
 
 same-length-2 : tie.Need-same-length-2
 same-length-2 c = search needs
 
-returns-3 : tie.Need-returns-3
-returns-3 c =
-    let args = c .before .before .before .before .before .before .before .before .before .before .before .before .args in
-    let if1 = c .before .before .before .before .before .before .before .before .before .before .if1 in
-    let place = c .before .before .before .before .before .before .before .before .place in
-    let holds-at = c .before .before .before .before .before .before .holds-at in
-    let if2 = c .before .before .before .before .before .if2 in
-    let if3 = c .before .before .before .before .if3 in
+returns-2 : tie.Need-returns-2
+returns-2 c =
+    let args = c .before .before .before .before .before .before .before .before .before .before .before .args in
+    let place-within = c .before .before .before .before .before .before .before .before .place-within in
+    let held-at = c .before .before .before .before .before .before .held-at in
+    let if1 = c .before .before .before .before .before .if1 in
+    let if2 = c .before .before .before .before .if2 in
     let put = c .before .before .put in
-    insert-put (args .count) (args .n) (place .result) (args .s .now) (if1 .left) (place .ensures) (holds-at .result) (holds-at .ensures) (put .result) (put .last .0) (put .ensures) (if2 .left) (if3 .taken)
+    insert-put (args .count) (args .n) (place-within .result) (args .s .now) (place-within .ensures) (held-at .result) (held-at .ensures) (put .result) (put .last .0) (put .ensures) (if1 .left) (if2 .taken)
 
 same-length-3 : tie.Need-same-length-3
 same-length-3 c = search needs
 
-returns-4 : tie.Need-returns-4
-returns-4 c =
-    let args = c .before .before .before .before .before .before .before .before .args in
-    let if1 = c .before .before .before .before .before .before .if1 in
-    let place = c .before .before .before .before .place in
-    let holds-at = c .before .before .holds-at in
-    let if2 = c .before .if2 in
-    insert-full (args .count) (args .n) (place .result) (args .s .now) (if1 .left) (place .ensures) (holds-at .result) (holds-at .ensures) (if2 .left) (omega arith)
+returns-3 : tie.Need-returns-3
+returns-3 c =
+    let args = c .before .before .before .before .before .before .before .args in
+    let place-within = c .before .before .before .before .place-within in
+    let held-at = c .before .before .held-at in
+    insert-full (args .count) (args .n) (place-within .result) (args .s .now) (place-within .ensures) (held-at .result) (held-at .ensures) (c .before .if1 .left) (c .if2 .left)
 
 pub insert-spec : {M : Type 1} → statement M
 insert-spec =
     tie.close
     (tie.spec
-    returns
-    slice-reshare-prefix-place
-    slice-aggregate-place
-    place-requires
-    slice-reshare-prefix-holds-at
-    slice-aggregate-holds-at
-    holds-at-requires
+    place-within-requires
+    held-at-requires
     same-length
-    returns-2
+    returns
     put-requires
     same-length-2
-    returns-3
+    returns-2
     same-length-3
-    returns-4)
+    returns-3)

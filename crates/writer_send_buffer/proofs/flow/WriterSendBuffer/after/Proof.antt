@@ -3,17 +3,11 @@ use borrow.Author.Needs.{needs}
 use Rattle.writer_send_buffer.proofs.flow.WriterSendBuffer.after.Statement.{statement}
 use Rattle.writer_send_buffer.proofs.flow.WriterSendBuffer.after.Tie as tie
 
-rank-requires : tie.Need-rank-requires
-rank-requires c κs = search needs
+ranks-requires : tie.Need-ranks-requires
+ranks-requires c κs = search needs
 
 first-after-requires : tie.Need-first-after-requires
 first-after-requires c κs = search needs
-
-rank-requires-2 : tie.Need-rank-requires-2
-rank-requires-2 c κs = search needs
-
-rank-requires-3 : tie.Need-rank-requires-3
-rank-requires-3 c κs = search needs
 
 add-formed : tie.Need-add-formed
 add-formed c = search needs
@@ -22,16 +16,11 @@ formed-requires : tie.Need-formed-requires
 formed-requires c κs = search needs
 
 returns : tie.Need-returns
-returns c = rw (c .formed .ensures, c .before .before .before .before .before .first-after .ensures, c .before .before .before .rank3 .ensures .is, c .before .before .before .before .rank2 .ensures .is, c .before .before .before .before .before .before .rank .ensures .is)
+returns c =
+    let ranks = c .before .before .before .before .before .ranks in
+    let first-after = c .before .before .before .before .first-after in
+    rw (c .formed .ensures, first-after .ensures, ranks .ensures .0)
 
 pub after-spec : {M : Type 1} → statement M
 after-spec =
-    tie.close
-    (tie.spec
-    rank-requires
-    first-after-requires
-    rank-requires-2
-    rank-requires-3
-    add-formed
-    formed-requires
-    returns)
+    tie.close (tie.spec ranks-requires first-after-requires add-formed formed-requires returns)

@@ -6,11 +6,8 @@ use Rattle.writer_send_buffer.proofs.flow.WriterSendBuffer.first_after.
 }
 use Rattle.writer_send_buffer.proofs.flow.WriterSendBuffer.first_after.Tie as tie
 
-rank-requires : tie.Need-rank-requires
-rank-requires c κs = search needs
-
-rank-requires-2 : tie.Need-rank-requires-2
-rank-requires-2 c κs = search needs
+ranks-requires : tie.Need-ranks-requires
+ranks-requires c κs = search needs
 
 add-above : tie.Need-add-above
 add-above c = search needs
@@ -25,17 +22,24 @@ larger-requires : tie.Need-larger-requires
 larger-requires c κs = search needs
 
 returns : tie.Need-returns
-returns c = rw (sym (c .before .before .trims-for .ensures) ∙ c .before .if1 .taken, c .larger .ensures, c .before .before .before .above .ensures, c .before .before .before .before .before .rank2 .ensures .is, c .before .before .before .before .before .before .rank .ensures .is)
+returns c =
+    let trims-for = c .before .before .trims-for in
+    let if1 = c .before .if1 in
+    let above = c .before .before .before .above in
+    let ranks = c .before .before .before .before .before .before .ranks in
+    rw (sym (trims-for .ensures) ∙ if1 .taken, c .larger .ensures, above .ensures, ranks .ensures .0)
 
 returns-2 : tie.Need-returns-2
-returns-2 c = rw (sym (c .before .trims-for .ensures) ∙ c .if1 .left, c .before .before .before .before .rank2 .ensures .is)
+returns-2 c =
+    let trims-for = c .before .trims-for in
+    let ranks = c .before .before .before .before .before .ranks in
+    rw (sym (trims-for .ensures) ∙ c .if1 .left, ranks .ensures .0)
 
 pub first-after-spec : {M : Type 1} → statement M
 first-after-spec =
     tie.close
     (tie.spec
-    rank-requires
-    rank-requires-2
+    ranks-requires
     add-above
     above-requires
     trims-for-requires

@@ -5,17 +5,8 @@ use Rattle.writer_send_buffer.proofs.flow.WriterSendBuffer.is_coherent.
 }
 use Rattle.writer_send_buffer.proofs.flow.WriterSendBuffer.is_coherent.Tie as tie
 
-rank-requires : tie.Need-rank-requires
-rank-requires c κs = search needs
-
-rank-requires-2 : tie.Need-rank-requires-2
-rank-requires-2 c κs = search needs
-
-rank-requires-3 : tie.Need-rank-requires-3
-rank-requires-3 c κs = search needs
-
-rank-requires-4 : tie.Need-rank-requires-4
-rank-requires-4 c κs = search needs
+ranks-requires : tie.Need-ranks-requires
+ranks-requires c κs = search needs
 
 is-negative-requires : tie.Need-is-negative-requires
 is-negative-requires c κs = search needs
@@ -40,23 +31,18 @@ add-result-2 c = search needs
 
 returns : tie.Need-returns
 returns c =
-    let rank = c .before .before .before .before .before .before .before .before .rank in
-    let rank2 = c .before .before .before .before .before .before .before .rank2 in
-    let rank3 = c .before .before .before .before .before .before .rank3 in
-    let rank4 = c .before .before .before .before .before .rank4 in
-    let is-negative = c .before .before .before .before .is-negative in
-    let is-negative2 = c .before .before .before .is-negative2 in
-    let are-allowed = c .before .are-allowed in
-    rw (c .above .ensures, are-allowed .ensures, is-negative2 .ensures, is-negative .ensures, ← rank4 .ensures .is, ← rank3 .ensures .is, ← rank2 .ensures .is, ← rank .ensures .is)
+    let ranks = c .before .before .before .before .before .before .before .before .before .before .before .before .before .before .ranks in
+    let is-negative = c .before .before .before .before .before .before .before .before .before .before .before .before .before .is-negative in
+    let is-negative2 = c .before .before .before .before .before .before .before .before .before .before .before .before .is-negative2 in
+    let are-allowed = c .before .before .before .before .before .before .before .before .before .before .are-allowed in
+    let above = c .before .before .before .before .before .before .before .before .above in
+    rw (above .ensures, are-allowed .ensures, is-negative2 .ensures, is-negative .ensures, ranks .ensures .0)
 
 pub is-coherent-spec : {M : Type 1} → statement M
 is-coherent-spec =
     tie.close
     (tie.spec
-    rank-requires
-    rank-requires-2
-    rank-requires-3
-    rank-requires-4
+    ranks-requires
     is-negative-requires
     is-negative-requires-2
     are-allowed-requires

@@ -1,12 +1,9 @@
 -- `with_acked_frontier` meets its contract. Assumes nothing.
-use Prim.Native.Nat.{_+_}
-use mathlib.Core.Path.{sym, ap, _∙_}
-use lib.Dec.{ltb}
-use Rattle.numbers.proofs.Refused.{done-is}
-use Rattle.writer_send_buffer.specs.Flow.{ahead}
+use mathlib.Core.Path.{ap}
 use Rattle.reader_list.specs.Slots.{frontierOf}
-use Rattle.writer_send_buffer.specs.Buffer.{view, toldNo, woken}
-use Rattle.writer_send_buffer.proofs.Calls.{refused, finished, storedIn, none-stored, one-stored}
+use Rattle.writer_send_buffer.specs.Flow.{ahead}
+use Rattle.writer_send_buffer.specs.Buffer.{view, woken}
+use Rattle.writer_send_buffer.proofs.Calls.{wakes}
 use borrow.Author.Needs.{needs}
 use Rattle.writer_send_buffer.proofs.flow.WriterSendBuffer.with_acked_frontier.Statement.{
   statement,
@@ -19,74 +16,32 @@ rank-requires c κs = search needs
 rank-requires-2 : tie.Need-rank-requires-2
 rank-requires-2 c κs = search needs
 
-rank-requires-3 : tie.Need-rank-requires-3
-rank-requires-3 c κs = search needs
+add-asked : tie.Need-add-asked
+add-asked c = search needs
 
-is-coherent-requires : tie.Need-is-coherent-requires
-is-coherent-requires c κs = search needs
+asked-requires : tie.Need-asked-requires
+asked-requires c κs = search needs
 
-add-range-answer : tie.Need-add-range-answer
-add-range-answer c = search needs
+frontier-wakes-requires : tie.Need-frontier-wakes-requires
+frontier-wakes-requires c κs = search needs
 
-range-answer-requires : tie.Need-range-answer-requires
-range-answer-requires c κs = search needs
+frontier-stored-requires : tie.Need-frontier-stored-requires
+frontier-stored-requires c κs = search needs
+
+unless-refused-requires : tie.Need-unless-refused-requires
+unless-refused-requires c κs = search needs
 
 returns : tie.Need-returns
 returns c =
     let args = c .before .before .before .before .before .before .before .args in
     let rank = c .before .before .before .before .before .before .rank in
     let rank2 = c .before .before .before .before .before .rank2 in
-    let is-coherent = c .before .before .before .is-coherent in
-    let range-answer = c .before .before .range-answer in
-    ap woken (refused (args .self) (is-coherent .result) (ltb (rank2 .result + 1) (rank .result)) (ahead (frontierOf (args .frontier)) (view (args .self))) (is-coherent .ensures)
-    (λ i. ltb (rank2 .ensures .is i + 1) (rank .ensures i)) (range-answer .result) (range-answer .ensures) (λ no. record { result = toldNo no; first = args .self })
-    (storedIn (frontierOf (args .frontier)) (view (args .self))) (c .if1 .taken))
-
-rank-requires-4 : tie.Need-rank-requires-4
-rank-requires-4 c κs = search needs
-
-rank-requires-5 : tie.Need-rank-requires-5
-rank-requires-5 c κs = search needs
-
-formed-requires : tie.Need-formed-requires
-formed-requires c κs = search needs
-
-returns-2 : tie.Need-returns-2
-returns-2 c =
-    let args = c .before .before .before .before .before .before .before .before .before .before .before .before .before .args in
-    let rank = c .before .before .before .before .before .before .before .before .before .before .before .before .rank in
-    let rank2 = c .before .before .before .before .before .before .before .before .before .before .before .rank2 in
-    let rank3 = c .before .before .before .before .before .before .before .before .before .before .rank3 in
-    let is-coherent = c .before .before .before .before .before .before .before .before .before .is-coherent in
-    let range-answer = c .before .before .before .before .before .before .before .before .range-answer in
-    let if1 = c .before .before .before .before .before .before .if1 in
-    let rank4 = c .before .before .before .rank4 in
-    let rank5 = c .before .before .rank5 in
-    let if2 = c .before .if2 in
-    rw (done-is (range-answer .result) (if1 .left), c .formed .ensures, rank5 .ensures .is, rank4 .ensures .is, rank3 .ensures .is, rank2 .ensures .is)
-    (ap woken (none-stored (frontierOf (args .frontier)) (view (args .self)) (sym (rank .ensures) ∙ if2 .taken) ∙ finished (args .self) (is-coherent .result) (ltb (rank2 .result + 1) (rank .result))
-    (ahead (frontierOf (args .frontier)) (view (args .self))) (is-coherent .ensures) (λ i. ltb (rank2 .ensures .is i + 1) (rank .ensures i)) (range-answer .result) (range-answer .ensures)
-    (λ no. record { result = toldNo no; first = args .self }) (storedIn (frontierOf (args .frontier)) (view (args .self))) (if1 .left)))
-
-formed-requires-2 : tie.Need-formed-requires-2
-formed-requires-2 c κs = search needs
-
-returns-3 : tie.Need-returns-3
-returns-3 c =
-    let args = c .before .before .before .before .before .before .before .before .before .before .before .before .before .args in
-    let rank = c .before .before .before .before .before .before .before .before .before .before .before .before .rank in
-    let rank2 = c .before .before .before .before .before .before .before .before .before .before .before .rank2 in
-    let rank3 = c .before .before .before .before .before .before .before .before .before .before .rank3 in
-    let is-coherent = c .before .before .before .before .before .before .before .before .before .is-coherent in
-    let range-answer = c .before .before .before .before .before .before .before .before .range-answer in
-    let if1 = c .before .before .before .before .before .before .if1 in
-    let rank4 = c .before .before .before .rank4 in
-    let rank5 = c .before .before .rank5 in
-    let if2 = c .before .if2 in
-    rw (done-is (range-answer .result) (if1 .left), c .formed2 .ensures, rank5 .ensures .is, rank4 .ensures .is, rank3 .ensures .is, rank2 .ensures .is, rank .ensures)
-    (ap woken (one-stored (frontierOf (args .frontier)) (view (args .self)) (λ e. if2 .left (rank .ensures ∙ e)) ∙ finished (args .self) (is-coherent .result) (ltb (rank2 .result + 1) (rank .result))
-    (ahead (frontierOf (args .frontier)) (view (args .self))) (is-coherent .ensures) (λ i. ltb (rank2 .ensures .is i + 1) (rank .ensures i)) (range-answer .result) (range-answer .ensures)
-    (λ no. record { result = toldNo no; first = args .self }) (storedIn (frontierOf (args .frontier)) (view (args .self))) (if1 .left)))
+    let asked = c .before .before .before .before .asked in
+    let frontier-wakes = c .before .before .before .frontier-wakes in
+    let frontier-stored = c .before .before .frontier-stored in
+    let unless-refused = c .before .unless-refused in
+    rw (unless-refused .ensures, frontier-stored .ensures, frontier-wakes .ensures, rank .ensures)
+    (ap woken (wakes (args .self) (ahead (frontierOf (args .frontier)) (view (args .self))) (asked .result) (rw (rank2 .ensures .is, rank .ensures) at (asked .ensures)) _ _))
 
 pub with-acked-frontier-spec : {M : Type 1} → statement M
 with-acked-frontier-spec =
@@ -94,14 +49,9 @@ with-acked-frontier-spec =
     (tie.spec
     rank-requires
     rank-requires-2
-    rank-requires-3
-    is-coherent-requires
-    add-range-answer
-    range-answer-requires
-    returns
-    rank-requires-4
-    rank-requires-5
-    formed-requires
-    returns-2
-    formed-requires-2
-    returns-3)
+    add-asked
+    asked-requires
+    frontier-wakes-requires
+    frontier-stored-requires
+    unless-refused-requires
+    returns)

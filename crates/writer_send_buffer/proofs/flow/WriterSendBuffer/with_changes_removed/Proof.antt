@@ -1,13 +1,9 @@
 -- `with_changes_removed` meets its contract. Assumes nothing.
-use Prim.Native.Nat.{_+_}
 use mathlib.Core.Path.{ap}
-use lib.Dec.{ltb}
 use Rattle.numbers.specs.Number.{rankOf}
-use Rattle.numbers.specs.Refusals.{done}
-use Rattle.numbers.proofs.Refused.{done-is}
-use Rattle.writer_send_buffer.specs.Flow.{ahead, evicted}
-use Rattle.writer_send_buffer.specs.Buffer.{view, form, moved}
-use Rattle.writer_send_buffer.proofs.Calls.{refused, finished}
+use Rattle.writer_send_buffer.specs.Flow.{ahead}
+use Rattle.writer_send_buffer.specs.Buffer.{view, moved}
+use Rattle.writer_send_buffer.proofs.Calls.{moves}
 use borrow.Author.Needs.{needs}
 use Rattle.writer_send_buffer.proofs.flow.WriterSendBuffer.with_changes_removed.Statement.{
   statement,
@@ -17,37 +13,14 @@ use Rattle.writer_send_buffer.proofs.flow.WriterSendBuffer.with_changes
 rank-requires : tie.Need-rank-requires
 rank-requires c κs = search needs
 
-rank-requires-2 : tie.Need-rank-requires-2
-rank-requires-2 c κs = search needs
+ranks-requires : tie.Need-ranks-requires
+ranks-requires c κs = search needs
 
-rank-requires-3 : tie.Need-rank-requires-3
-rank-requires-3 c κs = search needs
+add-asked : tie.Need-add-asked
+add-asked c = search needs
 
-is-coherent-requires : tie.Need-is-coherent-requires
-is-coherent-requires c κs = search needs
-
-add-range-answer : tie.Need-add-range-answer
-add-range-answer c = search needs
-
-range-answer-requires : tie.Need-range-answer-requires
-range-answer-requires c κs = search needs
-
-returns : tie.Need-returns
-returns c =
-    let args = c .before .before .before .before .before .before .before .args in
-    let rank = c .before .before .before .before .before .before .rank in
-    let rank2 = c .before .before .before .before .before .rank2 in
-    let is-coherent = c .before .before .before .is-coherent in
-    let range-answer = c .before .before .range-answer in
-    ap moved (refused (args .self) (is-coherent .result) (ltb (rank2 .result + 1) (rank .result)) (ahead (rankOf (args .before)) (view (args .self))) (is-coherent .ensures)
-    (λ i. ltb (rank2 .ensures .is i + 1) (rank .ensures .is i)) (range-answer .result) (range-answer .ensures) (λ no. record { result = no; first = args .self })
-    (record { result = done; first = form (evicted (rankOf (args .before)) (view (args .self))) }) (c .if1 .taken))
-
-rank-requires-4 : tie.Need-rank-requires-4
-rank-requires-4 c κs = search needs
-
-rank-requires-5 : tie.Need-rank-requires-5
-rank-requires-5 c κs = search needs
+asked-requires : tie.Need-asked-requires
+asked-requires c κs = search needs
 
 larger-requires : tie.Need-larger-requires
 larger-requires c κs = search needs
@@ -55,36 +28,29 @@ larger-requires c κs = search needs
 formed-requires : tie.Need-formed-requires
 formed-requires c κs = search needs
 
-returns-2 : tie.Need-returns-2
-returns-2 c =
-    let args = c .before .before .before .before .before .before .before .before .before .before .before .before .before .args in
-    let rank = c .before .before .before .before .before .before .before .before .before .before .before .before .rank in
-    let rank2 = c .before .before .before .before .before .before .before .before .before .before .before .rank2 in
-    let rank3 = c .before .before .before .before .before .before .before .before .before .before .rank3 in
-    let is-coherent = c .before .before .before .before .before .before .before .before .before .is-coherent in
-    let range-answer = c .before .before .before .before .before .before .before .before .range-answer in
-    let if1 = c .before .before .before .before .before .before .if1 in
-    let rank4 = c .before .before .before .before .before .rank4 in
-    let rank5 = c .before .before .before .before .rank5 in
-    let larger = c .before .larger in
-    rw (done-is (range-answer .result) (if1 .left), c .formed .ensures, larger .ensures, rank5 .ensures .is, rank4 .ensures .is, rank3 .ensures .is, rank2 .ensures .is, rank .ensures .is)
-    (ap moved (finished (args .self) (is-coherent .result) (ltb (rank2 .result + 1) (rank .result)) (ahead (rankOf (args .before)) (view (args .self))) (is-coherent .ensures)
-    (λ i. ltb (rank2 .ensures .is i + 1) (rank .ensures .is i)) (range-answer .result) (range-answer .ensures) (λ no. record { result = no; first = args .self })
-    (record { result = done; first = form (evicted (rankOf (args .before)) (view (args .self))) }) (if1 .left)))
+unless-refused-requires : tie.Need-unless-refused-requires
+unless-refused-requires c κs = search needs
+
+returns : tie.Need-returns
+returns c =
+    let args = c .before .before .before .before .before .before .before .before .before .args in
+    let rank = c .before .before .before .before .before .before .before .before .rank in
+    let ranks = c .before .before .before .before .before .before .before .ranks in
+    let asked = c .before .before .before .before .before .asked in
+    let larger = c .before .before .larger in
+    let formed = c .before .formed in
+    rw (c .unless-refused .ensures, formed .ensures, larger .ensures, ranks .ensures .0, rank .ensures .is)
+    (ap moved (moves (args .self) (ahead (rankOf (args .before)) (view (args .self))) (asked .result) (rw (ranks .ensures .0, rank .ensures .is) at (asked .ensures)) _))
 
 pub with-changes-removed-spec : {M : Type 1} → statement M
 with-changes-removed-spec =
     tie.close
     (tie.spec
     rank-requires
-    rank-requires-2
-    rank-requires-3
-    is-coherent-requires
-    add-range-answer
-    range-answer-requires
-    returns
-    rank-requires-4
-    rank-requires-5
+    ranks-requires
+    add-asked
+    asked-requires
     larger-requires
     formed-requires
-    returns-2)
+    unless-refused-requires
+    returns)
