@@ -12,13 +12,18 @@
  * - a bool is 0 or 1 (C's own bool is).
  * Nothing is kept between calls and nothing is allocated: the program owns the heads and the rooms.
  *
- * ROOMS, all zeros at first, of exactly these lengths (another length is answer 1):
+ * ROOMS, all zeros at first, of exactly these lengths (another length is answer 1, but for a reader's rooms when they are lent):
  *   unsent    as many numbers as the reader's cap, 1 to SINTEMUNO_MOST_UNSENT
  *   gaps      SINTEMUNO_GAPS numbers
- *   samples   SINTEMUNO_FRAG_SAMPLES numbers;   words   SINTEMUNO_FRAG_WORDS words
+ *   samples   SINTEMUNO_FRAG_SAMPLES numbers;   words   SINTEMUNO_FRAG_WORDS words, 64 for each sample
  *   store     slots * slot_bytes bytes;          lens   `slots` lengths
  *   list      1 to SINTEMUNO_MOST_READERS heads; a free slot is all zeros
- * A head comes back with the answer: keep it, and give it to the next call. The flow record and the list are changed in place.
+ * A reader's rooms, the first three lines, may be lent in part, from the start: a call takes time by what it is lent. It wants all that is
+ * held (`unsent_count`, `gap_count`, `frag_count`), one place more to notify, to insert a gap or to ask for fragments, as many more as the
+ * set has bits (at most 256) for an ACKNACK, 64 words for each sample lent, and never more than the whole room; else answer 1. What isn't
+ * lent is zero and stays so. This holds for the calls on one reader and for the steps alike.
+ * A head comes back with the answer: keep it, and give it to the next call. The flow record and the list are changed in place, and so are the
+ * heads of all readers where a write is lent them side by side.
  */
 #ifndef SINTEMUNO_H
 #define SINTEMUNO_H
@@ -66,6 +71,7 @@ enum {
     SINTEMUNO_MOST_BACKLOG = 2147483647
 };
 #define SINTEMUNO_LAST_NUMBER INT64_C(9223372036854775806) /* the last number that a written sample can have */
+#define SINTEMUNO_GAP UINT64_MAX /* of what sintemuno_send_many sends, the start of one that goes as a gap */
 
 /* ---- numbers: two types, so that one can't be given for the other ---- */
 typedef struct { int64_t n; } sintemuno_sequence_number;
@@ -135,6 +141,8 @@ typedef struct { sintemuno_answer answer; size_t start; size_t length; } sintemu
 typedef struct { sintemuno_answer answer; size_t place; sintemuno_reader_head head; } sintemuno_found;
 typedef struct { sintemuno_answer answer; sintemuno_frontier frontier; } sintemuno_front;
 typedef struct { sintemuno_answer answer; sintemuno_sequence_number number; bool data; sintemuno_reader proxy; } sintemuno_sent;
+typedef struct { sintemuno_answer answer; size_t count; sintemuno_reader proxy; } sintemuno_sent_many;
+typedef struct { sintemuno_told told; size_t left_out; sintemuno_reader proxy; } sintemuno_ack_told;
 
 /* The layout that the library was built with. */
 #if defined(__STDC_VERSION__) && __STDC_VERSION__ >= 201112L
@@ -143,6 +151,7 @@ _Static_assert(sizeof(sintemuno_set) == 48 && sizeof(sintemuno_fragment_set) == 
 _Static_assert(sizeof(sintemuno_reader) == 48 && sizeof(sintemuno_reader_head) == 24, "a reader and its head");
 _Static_assert(sizeof(sintemuno_writer) == 80 && offsetof(sintemuno_writer, limits) == 40, "a writer");
 _Static_assert(sizeof(sintemuno_told) == 8 && sizeof(sintemuno_sent) == 72, "answers");
+_Static_assert(sizeof(sintemuno_sent_many) == 64 && sizeof(sintemuno_ack_told) == 64, "answers of the steps");
 #endif
 
 /* ==== one reader ==== */
@@ -230,9 +239,7 @@ sintemuno_numbered sintemuno_writer_first_change_sequence_number(sintemuno_write
 sintemuno_numbered sintemuno_writer_last_change_sequence_number(sintemuno_writer flow);
 
 /* ==== the reader list ====
- * A match, a departure or an ACKNACK and the storing of the frontier are one step: no write may come between. So after
- * sintemuno_list_matched_reader_add, or .._remove, or sintemuno_reader_handle_ack_nack and sintemuno_list_set_acked with the new head's
- * all_acked_before, there follow sintemuno_list_frontier and sintemuno_writer_set_acked_frontier. */
+ * A match, a departure or an ACKNACK and the storing of the frontier are one step: no write may come between. The steps below do both. */
 
 /* The smallest acked over the reliable readers, raised to 1 at least, or absent. 1. */
 sintemuno_front sintemuno_list_frontier(const sintemuno_reader_head *list, size_t list_len);
@@ -249,10 +256,41 @@ sintemuno_answer sintemuno_list_matched_reader_remove(sintemuno_reader_head *lis
 /* One reader's acked is set. 1; 2 for a negative one; 11. */
 sintemuno_answer sintemuno_list_set_acked(sintemuno_reader_head *list, size_t list_len, sintemuno_acked a);
 
-/* ==== the send step ==== */
+/* ==== the steps: what a server runs, each under one answer; refused, none of it is done ==== */
+
+/* A match: the first free slot takes the reader, with acked 0, and the frontier of the list is stored. `yes`: wake who waits for room. The
+ * reader's own record is the program's to make: sintemuno_reader_new, in rooms of zeros. 13, 1, 11, 8; then 2, for a frontier above last + 1. */
+sintemuno_told sintemuno_match_reader(sintemuno_reader_head *list, size_t list_len, sintemuno_writer *flow, sintemuno_match m);
+
+/* A departure: the reader's slot is free again, and the frontier of the list is stored. `yes`: wake. 1, 11; then 2, for a
+ * frontier above last + 1. */
+sintemuno_told sintemuno_depart_reader(sintemuno_reader_head *list, size_t list_len, sintemuno_writer *flow, uint64_t id);
+
+/* An ACKNACK of the reader with the id, whose record is `proxy` with its rooms: the record takes it, the head's acked in the list moves with
+ * the record's, and the frontier is stored. `left_out`: the requests that found no room under the cap; `yes`: wake. Lent are the unsent
+ * numbers with as many places more as the set has bits, and the gap members. 1 (also where the head's acked isn't the record's), 3, 2, 11,
+ * 12; then 2, for a frontier above last + 1. For an id that isn't there, any coherent record will do, a new one for instance: it stays as it is. */
+sintemuno_ack_told sintemuno_take_ack_nack(sintemuno_reader_head *list, size_t list_len, sintemuno_writer *flow, sintemuno_reader proxy, uint64_t *unsent, size_t unsent_len, uint64_t *gaps, size_t gaps_len, uint64_t id, sintemuno_set set);
+
+/* A NACK_FRAG of the reader with the id: fragments of one sample are asked for. Lent are the samples that are held and one place more, but at
+ * most SINTEMUNO_FRAG_SAMPLES, with 64 words for each. 1, 3, 2, 11, 10. For an id that isn't there: as above. */
+sintemuno_changed sintemuno_take_nack_frag(const sintemuno_reader_head *list, size_t list_len, sintemuno_reader proxy, uint64_t *samples, size_t samples_len, uint64_t *words, size_t words_len, uint64_t id, sintemuno_sequence_number number, sintemuno_fragment_set set);
+
+/* A write that tells every reader: as sintemuno_writer_admit, and the number joins each reader's unsent numbers; above its cap the smallest
+ * go. The heads stand side by side in `proxies`, 0 to SINTEMUNO_MOST_READERS of them; one of zeros is a free place, and isn't told. Their
+ * unsent rooms stand side by side in `unsent`, in stretches of unsent_len / proxies_len numbers, each room at the start of its stretch. Of a
+ * stretch, unsent_count + 1 numbers are looked at, but no more than the cap; what lies past them stays as it is. 1, also where a reader isn't
+ * coherent or its stretch has no place for one more below its cap; 4, 5, 6, 7. */
+sintemuno_numbered sintemuno_write(sintemuno_writer *flow, uint8_t *store, size_t store_len, uint64_t *lens, size_t lens_len, const uint8_t *payload, size_t payload_len, bool opted, sintemuno_reader *proxies, size_t proxies_len, uint64_t *unsent, size_t unsent_len);
 
 /* The first unsent number is marked sent: as data if it is retained (`data`), else it is to be told as a gap. 1, 14. */
 sintemuno_sent sintemuno_send_first(sintemuno_writer flow, sintemuno_reader proxy, uint64_t *unsent, size_t unsent_len);
+
+/* The same for many, under one check: as many of the smallest unsent numbers as `numbers`, `starts` and `lengths` all have places for are
+ * marked sent; `count` says how many. Of each, `numbers` has the number, `starts` where its bytes begin in a store of `room` bytes, and
+ * `lengths` how many they are; SINTEMUNO_GAP and 0 where it is to be told as a gap. What lies past `count` in the three stays as it is. The
+ * sent frontier isn't raised. 1, also where `room` or `lens` isn't the flow record's; 14 where nothing is unsent. */
+sintemuno_sent_many sintemuno_send_many(sintemuno_writer flow, size_t room, const uint64_t *lens, size_t lens_len, sintemuno_reader proxy, uint64_t *unsent, size_t unsent_len, uint64_t *numbers, size_t numbers_len, uint64_t *starts, size_t starts_len, uint64_t *lengths, size_t lengths_len);
 
 #ifdef __cplusplus
 }

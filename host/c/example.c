@@ -1,10 +1,11 @@
-/* A writer with one line: a match, three writes, an ACKNACK that asks for one notice again, a piece asked for again, an eviction. */
+/* A writer with one line, by the steps that a server runs: a match, three writes, an ACKNACK that asks for one notice again, pieces asked for
+ * again, an eviction, a departure. */
 #include "sintemuno.h"
 
 #include <stdio.h>
 #include <string.h>
 
-enum { SLOTS = 4, SLOT_BYTES = 16, CAP = 8, READERS = 2 };
+enum { SLOTS = 4, SLOT_BYTES = 16, CAP = 8, READERS = 2, AT_ONCE = 2 };
 
 static sintemuno_writer writer;
 static uint8_t store[SLOTS * SLOT_BYTES];
@@ -21,51 +22,40 @@ static const uint64_t nothing[1];
 
 static sintemuno_sequence_number number(int64_t n) { return (sintemuno_sequence_number){n}; }
 
-/* After each match, departure and accepted ACKNACK. */
-static void store_frontier(void) {
-    sintemuno_front front = sintemuno_list_frontier(list, READERS);
-    sintemuno_told told = sintemuno_writer_set_acked_frontier(&writer, front.frontier);
-    printf("frontier %u: acked=%lld wake=%d\n", told.answer.number, (long long)writer.acked.n, told.yes);
-}
-
 static void write_notice(const char *text) {
-    sintemuno_numbered w = sintemuno_writer_admit(&writer, store, sizeof store, lens, SLOTS, (const uint8_t *)text, strlen(text), false);
-    printf("write %u: number=%lld\n", w.answer.number, (long long)w.number.n);
-    if (w.answer.number == SINTEMUNO_DONE)
-        line = sintemuno_reader_notify_new_cache_change(line, unsent, CAP, w.number).proxy;
+    /* One place, and the line stands in it. */
+    sintemuno_numbered w = sintemuno_write(&writer, store, sizeof store, lens, SLOTS, (const uint8_t *)text, strlen(text), false, &line, 1, unsent, CAP);
+    printf("write %u: number=%lld unsent=%zu\n", w.answer.number, (long long)w.number.n, line.unsent_count);
 }
 
 static void send_all(void) {
+    uint64_t numbers[AT_ONCE], starts[AT_ONCE], lengths[AT_ONCE];
     for (;;) {
-        sintemuno_sent sent = sintemuno_send_first(writer, line, unsent, CAP);
+        sintemuno_sent_many sent = sintemuno_send_many(writer, sizeof store, lens, SLOTS, line, unsent, line.unsent_count, numbers, AT_ONCE, starts, AT_ONCE, lengths, AT_ONCE);
         if (sent.answer.number != SINTEMUNO_DONE)
             return;
         line = sent.proxy;
-        if (sent.data) {
-            sintemuno_located at = sintemuno_writer_locate(writer, sizeof store, lens, SLOTS, sent.number);
-            printf("data %lld: %.*s\n", (long long)sent.number.n, (int)at.length, (const char *)store + at.start);
-        } else {
-            printf("gap %lld\n", (long long)sent.number.n);
+        for (size_t i = 0; i < sent.count; i++) {
+            if (starts[i] == SINTEMUNO_GAP)
+                printf("gap %llu\n", (unsigned long long)numbers[i]);
+            else
+                printf("data %llu: %.*s\n", (unsigned long long)numbers[i], (int)lengths[i], (const char *)store + starts[i]);
+            sintemuno_writer_set_sent_frontier(&writer, number((int64_t)numbers[i]));
         }
-        sintemuno_writer_set_sent_frontier(&writer, sent.number);
     }
 }
 
-static void take_ack_nack(int64_t base, const uint64_t *asked, size_t count) {
+static void take_ack_nack(uint64_t id, int64_t base, const uint64_t *asked, size_t count) {
     sintemuno_set set = sintemuno_set_of_numbers(number(base), asked, count).set;
-    sintemuno_ack_nacked taken = sintemuno_reader_handle_ack_nack(line, unsent, CAP, gaps, SINTEMUNO_GAPS, set, writer.last);
-    printf("acknack %u: left out %zu\n", taken.answer.number, taken.left_out);
-    if (taken.answer.number != SINTEMUNO_DONE)
-        return;
+    sintemuno_ack_told taken = sintemuno_take_ack_nack(list, READERS, &writer, line, unsent, CAP, gaps, SINTEMUNO_GAPS, id, set);
+    printf("acknack %u: left out %zu, acked=%lld wake=%d\n", taken.told.answer.number, taken.left_out, (long long)writer.acked.n, taken.told.yes);
     line = taken.proxy;
-    sintemuno_list_set_acked(list, READERS, (sintemuno_acked){1, line.all_acked_before});
-    store_frontier();
 }
 
 static void pieces(void) {
     const uint64_t asked[] = {1, 3};
     sintemuno_fragment_set set = sintemuno_fragment_set_of_numbers((sintemuno_fragment_number){1}, asked, 2).set;
-    sintemuno_changed c = sintemuno_reader_mark_frags_requested(line, samples, SINTEMUNO_FRAG_SAMPLES, words, SINTEMUNO_FRAG_WORDS, number(2), set);
+    sintemuno_changed c = sintemuno_take_nack_frag(list, READERS, line, samples, SINTEMUNO_FRAG_SAMPLES, words, SINTEMUNO_FRAG_WORDS, 1, number(2), set);
     printf("pieces %u\n", c.answer.number);
     line = c.proxy;
     for (;;) {
@@ -86,24 +76,28 @@ int main(void) {
 
     line = sintemuno_reader_new(CAP).proxy;
     printf("cap of 0: %u\n", sintemuno_reader_new(0).answer.number);
-    printf("match %u\n", sintemuno_list_matched_reader_add(list, READERS, (sintemuno_match){1, true, CAP}).number);
-    printf("match again %u\n", sintemuno_list_matched_reader_add(list, READERS, (sintemuno_match){1, true, CAP}).number);
-    store_frontier();
+    sintemuno_told told = sintemuno_match_reader(list, READERS, &writer, (sintemuno_match){1, true, CAP});
+    printf("match %u: acked=%lld wake=%d\n", told.answer.number, (long long)writer.acked.n, told.yes);
+    printf("match again %u\n", sintemuno_match_reader(list, READERS, &writer, (sintemuno_match){1, true, CAP}).answer.number);
 
     write_notice("rye, label 7");
     write_notice("stop: nuts next");
     write_notice("third");
+    write_notice("has to wait");
     send_all();
-    take_ack_nack(2, (const uint64_t[]){2}, 1);
+    take_ack_nack(1, 2, (const uint64_t[]){2}, 1);
     send_all();
     pieces();
-    take_ack_nack(9, nothing, 0);
-    take_ack_nack(4, nothing, 0);
+    take_ack_nack(1, 9, nothing, 0);
+    take_ack_nack(7, 2, nothing, 0);
     printf("evict %u\n", sintemuno_writer_remove_changes_before(&writer, number(3)).number);
     printf("where 2 lies: %u\n", sintemuno_writer_locate(writer, sizeof store, lens, SLOTS, number(2)).answer.number);
+    take_ack_nack(1, 2, (const uint64_t[]){2, 3}, 2);
+    send_all();
+    take_ack_nack(1, 4, nothing, 0);
     printf("acked through 3: %d\n", sintemuno_writer_is_acked_through(writer, number(3)).yes);
-    printf("lent one slot less: %u\n", sintemuno_reader_first_unsent_change(line, unsent, CAP - 1).answer.number);
-    printf("departure %u\n", sintemuno_list_matched_reader_remove(list, READERS, 1).number);
-    store_frontier();
+    printf("lent no place for one more: %u\n", sintemuno_reader_notify_new_cache_change(line, unsent, line.unsent_count, number(4)).answer.number);
+    told = sintemuno_depart_reader(list, READERS, &writer, 1);
+    printf("departure %u: wake=%d\n", told.answer.number, told.yes);
     return 0;
 }

@@ -1,27 +1,28 @@
 -- The room: what stands from one place to another gets as many cells as the members of a set need, and these are laid there. Assumes nothing.
-use Prim.Native.Nat.{ℕ, suc, _+_, _-_, _≤_, _<_, min, max}
+use Prim.Native.Nat.{ℕ, _+_, _-_, _≤_, _<_, min, max}
 use mathlib.Core.Path.{_≡_, refl, sym, ap, subst, _∙_}
 use mathlib.Core.Bool.{Bool, true, false, not, cond, _&&_, _||_}
-use mathlib.Core.List.{List, [], _∷_, _++_, append-nil, append-assoc}
+use mathlib.Core.List.{List, [], _++_, append-nil, append-assoc}
 use native.Mathlib.Omega.{arith}
 use lib.Dec.{leb, ltb, eqb}
 use lib.ListN.{length, take, drop, replicate, length-take, length-drop, length-append, length-replicate}
 use lib.Seq.{take-all, length-take-le, take-take, drop-drop, drop-at, take-append-le, take-append-add, drop-append-le}
-use borrow.Author.Tests.{leb-true, leb-false, le-leb, le-ltb, ltb-false}
-use Rattle.sets.specs.Sets.{between, smallest, empty}
+use borrow.Author.Tests.{leb-true, leb-false, le-leb, le-ltb, ltb-false, eq-eqb, ne-eqb}
+use Rattle.sets.specs.Sets.{smallest, empty}
 use Rattle.sets.proofs.Bools.{neither}
 use Rattle.sets.proofs.Loops.{done}
 use Rattle.numbers.specs.Number.{rankOf, negative}
 use Rattle.numbers.specs.Promise.{Left1, Gives1}
 use Rattle.number_sets.specs.declared.sequence_number_set.SequenceNumberSet.{SequenceNumberSet}
 use Rattle.number_sets.specs.declared.sequence_number_set.Listed.{Listed}
+use Rattle.number_sets.specs.declared.sequence_number_set.NextRank.{NextRank}
 use Rattle.number_sets.specs.Bits.{members}
 use Rattle.number_sets.specs.Calls.{sequenceSet, cutSet, joinedSet, sequenceRows, setRows, listed, allListed}
 use Rattle.number_sets.proofs.Meaning.{span-window}
 use Rattle.rising.specs.Runs.{over, inRoom, placeOf, cutOut, openedWithin, filled}
-use Rattle.rising.proofs.Rooms.{drop-take, as-well}
+use Rattle.rising.proofs.Rooms.{drop-take, as-well, room-same}
 use Rattle.rising.proofs.Inserts.{place-le}
-use Rattle.joined_runs.specs.Joined.{replaced, startIn, endIn, lying, withMembers, joinsNone, laidIn, joinedIn, resized, Within, Listable}
+use Rattle.joined_runs.specs.Joined.{replaced, grown, endIn, lying, withMembers, asked, firstAsked, laidIn, joinedIn, resized, Within, Listable}
 
 -- RESIZED: by a cut, or by an opening
 module _ (p q count n : ℕ) (a : List ℕ) (w : Within p q count a) where
@@ -177,69 +178,85 @@ module _ (p q count : ℕ) (a : List ℕ) (set : SequenceNumberSet) (w : Within 
         ∙ laid (length a) p q l N T (w .rises) lq lm none-after
         ∙ ap (λ (i : ℕ). smallest (length a) (replaced p q N l) ++ (replicate (count - i) 0 ++ drop (max count i) a)) (same-many (length a) p q l N T (w .rises) lq lm none-after)
 
+  -- whether they are more than stood there, by what the code counted
+  module _ (n : ℕ) (e : n ≡ length N) where
+    pub grown-none : n ≡ q - p → Gives1 count a (laidIn count a (grown p q N l))
+    grown-none f =
+        let z : eqb (length N) (q - p) ≡ true = eq-eqb (length N) (q - p) (sym e ∙ f) in
+        let s : smallest (length a) l ≡ l = take-all (length a) l (omega (arith, ll, w .fits)) in
+        rw (z, s) (record { result = sym ll; first = room-same count a (w .fits) })
+
+    pub grown-some : (n ≡ q - p → ⊥) → (r : ℕ) (u : List ℕ) → Gives1 r u (laidIn count a (replaced p q N l)) → Gives1 r u (laidIn count a (grown p q N l))
+    grown-some f r u g = rw (ne-eqb (length N) (q - p) (λ x. f (e ∙ x))) g
+
 -- JOINED: the places that the code found, and the set
 pub start-in : (count first p : ℕ) (a : List ℕ) → p ≡ placeOf first (take count a) → p ≤ count
 start-in count first p a e = omega (arith, place-le first (take count a), length-take count a)
 
-module _ (count : ℕ) (a : List ℕ) (set : SequenceNumberSet) (first p k q : ℕ) (fits : count ≤ length a) (s : Listable set) (ef : first ≡ rankOf (set .base))
-    (ep : p ≡ placeOf first (take count a)) (ek : k ≡ placeOf (first + 256) (take (count - p) (drop p a))) (eq : q ≡ p + k) where
+module _ (count : ℕ) (a : List ℕ) (set : SequenceNumberSet) (first base p k q : ℕ) (fits : count ≤ length a) (s : Listable set) (eb : base ≡ rankOf (set .base))
+    (ep : p ≡ placeOf first (take count a)) (ek : k ≡ placeOf (base + set .count) (take (count - p) (drop p a))) (eq : q ≡ p + k) where
   pub joined-within : Within p q count a
   joined-within =
       let h = start-in count first p a ep in
-      record { rises = omega arith; most = omega (arith, place-le (first + 256) (take (count - p) (drop p a)), length-take (count - p) (drop p a)); fits = fits }
+      record { rises = omega arith; most = omega (arith, place-le (base + set .count) (take (count - p) (drop p a)), length-take (count - p) (drop p a)); fits = fits }
 
-  p-is : p ≡ startIn set (take count a)
-  p-is = ep ∙ ap (λ (x : ℕ). placeOf x (take count a)) ef
-
-  q-is : q ≡ endIn set (take count a)
+  q-is : q ≡ endIn first set (take count a)
   q-is =
       let d : take (count - p) (drop p a) ≡ drop p (take count a) = sym (drop-take p count a) in
-      eq ∙ ap (λ (x : ℕ). p + x) (ek ∙ ap (placeOf (first + 256)) d ∙ ap (λ (x : ℕ). placeOf (x + 256) (drop p (take count a))) ef)
-      ∙ ap (λ (x : ℕ). x + placeOf (rankOf (set .base) + 256) (drop x (take count a))) p-is
+      eq ∙ ap (λ (x : ℕ). p + x) (ek ∙ ap (placeOf (base + set .count)) d ∙ ap (λ (x : ℕ). placeOf (x + set .count) (drop p (take count a))) eb)
+      ∙ ap (λ (x : ℕ). x + placeOf (rankOf (set .base) + set .count) (drop x (take count a))) ep
 
   module _ (all : SequenceNumberSet) (e : all ≡ joinedSet set (take (q - p) (drop p a))) where
     pub joined-listable : Listable all
     joined-listable = rw e (record { bits = omega (arith, s .bits, span-window (rankOf (set .base)) (take (q - p) (drop p a))); base = s .base })
 
-    all-is : all ≡ joinedSet set (lying set (take count a))
+    all-is : all ≡ joinedSet set (lying first set (take count a))
     all-is =
         let y : take (q - p) (drop p a) ≡ take (q - p) (drop p (take count a)) =
         sym (ap (take (q - p)) (drop-take p count a) ∙ take-take (q - p) (count - p) (drop p a) (omega (arith, joined-within .most))) in
-        e ∙ ap (joinedSet set) (y ∙ ap (λ (x : ℕ). take (x - p) (drop p (take count a))) q-is ∙ ap (λ (x : ℕ). take (endIn set (take count a) - x) (drop x (take count a))) p-is)
+        e ∙ ap (joinedSet set) (y ∙ ap (λ (x : ℕ). take (x - p) (drop p (take count a))) q-is ∙ ap (λ (x : ℕ). take (endIn first set (take count a) - x) (drop x (take count a))) ep)
 
-    pub joined-some : (r : ℕ) (u : List ℕ) → Gives1 r u (laidIn count a (replaced p q (members (sequenceSet all)) (take count a))) → Gives1 r u (laidIn count a (withMembers set (take count a)))
+    pub joined-some : (r : ℕ) (u : List ℕ) → Gives1 r u (laidIn count a (grown p q (members (sequenceSet all)) (take count a))) → Gives1 r u (laidIn count a (withMembers first set (take count a)))
     joined-some r u g =
-        let x : replaced p q (members (sequenceSet all)) (take count a) ≡ withMembers set (take count a) =
-        ap (λ (i : SequenceNumberSet). replaced p q (members (sequenceSet i)) (take count a)) all-is
-        ∙ ap (λ (i : ℕ). replaced i q (members (sequenceSet (joinedSet set (lying set (take count a))))) (take count a)) p-is
-        ∙ ap (λ (i : ℕ). replaced (startIn set (take count a)) i (members (sequenceSet (joinedSet set (lying set (take count a))))) (take count a)) q-is in
+        let x : grown p q (members (sequenceSet all)) (take count a) ≡ withMembers first set (take count a) =
+        ap (λ (i : SequenceNumberSet). grown p q (members (sequenceSet i)) (take count a)) all-is
+        ∙ ap (λ (i : ℕ). grown i q (members (sequenceSet (joinedSet set (lying first set (take count a))))) (take count a)) ep
+        ∙ ap (λ (i : ℕ). grown (placeOf first (take count a)) i (members (sequenceSet (joinedSet set (lying first set (take count a))))) (take count a)) q-is in
         record { result = g .result ∙ ap length x; first = g .first ∙ ap (λ (i : List ℕ). over a count (smallest (length a) i)) x }
 
 -- WHETHER ANYTHING JOINS
-module _ (set : SequenceNumberSet) (lo hi count : ℕ) (a : List ℕ) (none : Bool) (e : none ≡ joinsNone set lo hi) where
-  pub joined-none : (ltb (length a) count || none) ≡ true → Gives1 count a (joinedIn set lo hi count a)
+module _ (set : SequenceNumberSet) (lo hi count : ℕ) (a : List ℕ) (next : NextRank) (e : next ≡ firstAsked set lo hi) where
+  abbrev left-by : ℕ → SequenceNumberSet → Left1 ℕ (List ℕ)
+  left-by f s = laidIn count a (withMembers f s (take count a))
+
+  none-is : next .none ≡ firstAsked set lo hi .none
+  none-is = ap (λ (x : NextRank). x .none) e
+
+  pub joined-none : (ltb (length a) count || next .none) ≡ true → Gives1 count a (joinedIn set lo hi count a)
   joined-none h = go (leb count (length a)) refl
     where
       go : (t : Bool) → leb count (length a) ≡ t
-          → Gives1 count a (cond (t && not (joinsNone set lo hi)) (laidIn count a (withMembers (cutSet set lo hi) (take count a))) (record { result = count; first = a }))
+          → Gives1 count a (cond (t && not (firstAsked set lo hi .none)) (left-by (firstAsked set lo hi .rank) (cutSet set lo hi)) (record { result = count; first = a }))
       go false f = record { result = refl; first = refl }
       go true f =
-          let j : joinsNone set lo hi ≡ true = sym e ∙ (rw (le-ltb (length a) count (leb-true count (length a) f)) at h) in
+          let j : firstAsked set lo hi .none ≡ true = sym none-is ∙ (rw (le-ltb (length a) count (leb-true count (length a) f)) at h) in
           rw j (record { result = refl; first = refl })
 
-  module _ (h : (ltb (length a) count || none) ≡ false) where
+  module _ (h : (ltb (length a) count || next .none) ≡ false) where
     pub some-fits : count ≤ length a
-    some-fits = ltb-false (length a) count (neither (ltb (length a) count) none h .0)
+    some-fits = ltb-false (length a) count (neither (ltb (length a) count) (next .none) h .0)
 
-    some-joins : joinsNone set lo hi ≡ false
-    some-joins = sym e ∙ neither (ltb (length a) count) none h .1
+    some-joins : firstAsked set lo hi .none ≡ false
+    some-joins = sym none-is ∙ neither (ltb (length a) count) (next .none) h .1
 
-    module _ (asked : SequenceNumberSet) (ea : asked ≡ cutSet set lo hi) where
-      pub some-listable : Listable asked
+    module _ (these : SequenceNumberSet) (ea : these ≡ cutSet set lo hi) where
+      pub some-listable : Listable these
       some-listable =
-          let x = neither (ltb 256 (set .count)) (negative (set .base) || empty (between lo hi (members (sequenceSet set)))) some-joins in
+          let x = neither (ltb 256 (set .count)) (negative (set .base) || empty (asked set lo hi)) some-joins in
           subst Listable (sym ea)
-          (record { bits = ltb-false 256 (set .count) (x .0); base = neither (negative (set .base)) (empty (between lo hi (members (sequenceSet set)))) (x .1) .0 })
+          (record { bits = ltb-false 256 (set .count) (x .0); base = neither (negative (set .base)) (empty (asked set lo hi)) (x .1) .0 })
 
-      pub joined-done : (r : ℕ) (u : List ℕ) → Gives1 r u (laidIn count a (withMembers asked (take count a))) → Gives1 r u (joinedIn set lo hi count a)
-      joined-done r u g = rw (le-leb count (length a) some-fits, some-joins) (subst (λ (x : SequenceNumberSet). Gives1 r u (laidIn count a (withMembers x (take count a)))) ea g)
+      pub joined-done : (r : ℕ) (u : List ℕ) → Gives1 r u (left-by (next .rank) these) → Gives1 r u (joinedIn set lo hi count a)
+      joined-done r u g =
+          rw (le-leb count (length a) some-fits, some-joins)
+          (subst (Gives1 r u) (ap (left-by (next .rank)) ea ∙ ap (λ (x : NextRank). left-by (x .rank) (cutSet set lo hi)) e) g)

@@ -2,15 +2,16 @@
 -- `sets` and proved (proofs/Meaning.antt). Assumes nothing.
 use Prim.Native.Nat.{ℕ, _+_, _-_, _≤_, min}
 use mathlib.Core.Path.{_≡_}
-use mathlib.Core.Bool.{Bool, false, not, cond, _&&_, _||_}
+use mathlib.Core.Bool.{false, not, cond, _&&_, _||_}
 use mathlib.Core.List.{List, _++_}
-use lib.Dec.{leb, ltb}
+use lib.Dec.{leb, ltb, eqb}
 use lib.ListN.{length, take, drop, replicate}
-use Rattle.sets.specs.Sets.{between, smallest, empty}
+use Rattle.sets.specs.Sets.{between, smallest, empty, firstOr}
 use Rattle.numbers.specs.Number.{rankOf, negative}
 use Rattle.numbers.specs.Promise.{Left1}
 use Rattle.rising.specs.Runs.{placeOf, over}
 use Rattle.number_sets.specs.declared.sequence_number_set.SequenceNumberSet.{SequenceNumberSet}
+use Rattle.number_sets.specs.declared.sequence_number_set.NextRank.{NextRank}
 use Rattle.number_sets.specs.Bits.{members}
 use Rattle.number_sets.specs.Calls.{sequenceSet, cutSet, joinedSet}
 
@@ -18,23 +19,27 @@ use Rattle.number_sets.specs.Calls.{sequenceSet, cutSet, joinedSet}
 abbrev pub replaced : ℕ → ℕ → List ℕ → List ℕ → List ℕ
 replaced p q N l = take p l ++ (N ++ drop q l)
 
--- where the numbers of l that lie in the set's 256 places begin, and where they end
-abbrev pub startIn : SequenceNumberSet → List ℕ → ℕ
-startIn s l = placeOf (rankOf (s .base)) l
+-- the same, unless N has as many numbers as stand there. These have joined N: if it has as many it has no other, and nothing is to be laid
+abbrev pub grown : ℕ → ℕ → List ℕ → List ℕ → List ℕ
+grown p q N l = cond (eqb (length N) (q - p)) l (replaced p q N l)
 
-abbrev pub endIn : SequenceNumberSet → List ℕ → ℕ
-endIn s l = startIn s l + placeOf (rankOf (s .base) + 256) (drop (startIn s l) l)
+-- the numbers of l from `first` on that lie in the set's bits begin at the place of `first`; where they end
+abbrev pub endIn : ℕ → SequenceNumberSet → List ℕ → ℕ
+endIn first s l = placeOf first l + placeOf (rankOf (s .base) + s .count) (drop (placeOf first l) l)
 
--- they join the set, and its members take their place
-abbrev pub lying : SequenceNumberSet → List ℕ → List ℕ
-lying s l = take (endIn s l - startIn s l) (drop (startIn s l) l)
+-- they are these; they join the set, and its members take their place
+abbrev pub lying : ℕ → SequenceNumberSet → List ℕ → List ℕ
+lying first s l = take (endIn first s l - placeOf first l) (drop (placeOf first l) l)
 
-abbrev pub withMembers : SequenceNumberSet → List ℕ → List ℕ
-withMembers s l = replaced (startIn s l) (endIn s l) (members (sequenceSet (joinedSet s (lying s l)))) l
+abbrev pub withMembers : ℕ → SequenceNumberSet → List ℕ → List ℕ
+withMembers first s l = grown (placeOf first l) (endIn first s l) (members (sequenceSet (joinedSet s (lying first s l)))) l
 
--- nothing joins from a set that has more than 256 bits, a negative base, or no member from lo through hi
-abbrev pub joinsNone : SequenceNumberSet → ℕ → ℕ → Bool
-joinsNone s lo hi = ltb 256 (s .count) || (negative (s .base) || empty (between lo hi (members (sequenceSet s))))
+-- the members of a set from lo through hi, and the first of them. None joins from a set that has more than 256 bits or a negative base
+abbrev pub asked : SequenceNumberSet → ℕ → ℕ → List ℕ
+asked s lo hi = between lo hi (members (sequenceSet s))
+
+abbrev pub firstAsked : SequenceNumberSet → ℕ → ℕ → NextRank
+firstAsked s lo hi = record { none = ltb 256 (s .count) || (negative (s .base) || empty (asked s lo hi)); rank = firstOr 0 (asked s lo hi) }
 
 -- a run l in a room a in which c numbers stood, cut to the room; and how many there are uncut
 abbrev pub laidIn : ℕ → List ℕ → List ℕ → Left1 ℕ (List ℕ)
@@ -43,8 +48,8 @@ laidIn c a l = record { result = length l; first = over a c (smallest (length a)
 -- the run of `count` numbers after the members of the set from lo through hi have joined. A count past the room changes nothing
 abbrev pub joinedIn : SequenceNumberSet → ℕ → ℕ → ℕ → List ℕ → Left1 ℕ (List ℕ)
 joinedIn s lo hi count a =
-    cond (leb count (length a) && not (joinsNone s lo hi))
-    (laidIn count a (withMembers (cutSet s lo hi) (take count a)))
+    cond (leb count (length a) && not (firstAsked s lo hi .none))
+    (laidIn count a (withMembers (firstAsked s lo hi .rank) (cutSet s lo hi) (take count a)))
     (record { result = count; first = a })
 
 -- WITHIN: what the functions behind the tests ask

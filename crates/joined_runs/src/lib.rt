@@ -6,18 +6,21 @@ ghost use Rattle.numbers.specs.Promise.{Gives1};
 ghost use Rattle.rising.specs.Runs.{inRoom};
 ghost use Rattle.number_sets.specs.Bits.{members};
 ghost use Rattle.number_sets.specs.Calls.{sequenceSet};
-ghost use Rattle.joined_runs.specs.Joined.{joinsNone, joinedIn, withMembers, laidIn, replaced, resized, Within, Listable};
+ghost use Rattle.joined_runs.specs.Joined.{firstAsked, joinedIn, withMembers, laidIn, grown, resized, Within, Listable};
+use number_sets::NextRank;
 use number_sets::SequenceNumberSet;
 use rising::room;
 use rising::run;
 
-// Whether no member of a set from lo through hi joins.
-fn joins_none(set: SequenceNumberSet, lo: u64, hi: u64) -> bool
-    ensures { λ r. ⌜ r ≡ joinsNone set lo hi ⌝ }
+// The first member of a set from lo through hi, unless none joins.
+fn first_asked(set: SequenceNumberSet, lo: u64, hi: u64) -> NextRank
+    ensures { λ r. ⌜ r ≡ firstAsked set lo hi ⌝ }
 {
     let negative = set.base.is_negative();
     let next = set.next_rank(lo, hi);
-    (256 < set.count) | (negative | next.none)
+    let none = (256 < set.count) | (negative | next.none);
+    let rank = next.rank;
+    NextRank { none, rank }
 }
 
 // The numbers from place p up to place q get room for n: the last of them go, or zeros come after them.
@@ -32,25 +35,28 @@ fn resize(s: &mut [u64], count: usize, p: usize, q: usize, n: usize) -> usize
     room::open(s, count, q, n - old)
 }
 
-// The members of a set stand in place of the numbers from place p up to place q.
+// The members of a set stand in place of the numbers from place p up to place q, which have joined it: if there are as many, they stand there already.
 fn replace(s: &mut [u64], count: usize, p: usize, q: usize, set: SequenceNumberSet) -> usize
     requires { ⌜ Within p q count (now s) × Listable set ⌝ }
-    ensures { λ r. ⌜ Gives1 r (now (s .exit)) (laidIn count (now (s .entry)) (replaced p q (members (sequenceSet set)) (take count (now (s .entry))))) ⌝ }
+    ensures { λ r. ⌜ Gives1 r (now (s .exit)) (laidIn count (now (s .entry)) (grown p q (members (sequenceSet set)) (take count (now (s .entry))))) ⌝ }
 {
     let n = set.size();
+    if n == q - p {
+        return count;
+    }
     resize(s, count, p, q, n);
     set.list_members(&mut s[p..]);
     p + n + (count - q)
 }
 
-// The numbers of the run that lie in the set's 256 places join it, and its members take their place.
-fn join_some(s: &mut [u64], count: usize, set: SequenceNumberSet) -> usize
+// The numbers of the run from `first` on that lie in the set's bits join it, and its members take their place.
+fn join_some(s: &mut [u64], count: usize, set: SequenceNumberSet, first: u64) -> usize
     requires { ⌜ (count ≤ length (now s)) × Listable set ⌝ }
-    ensures { λ r. ⌜ Gives1 r (now (s .exit)) (laidIn count (now (s .entry)) (withMembers set (take count (now (s .entry))))) ⌝ }
+    ensures { λ r. ⌜ Gives1 r (now (s .exit)) (laidIn count (now (s .entry)) (withMembers first set (take count (now (s .entry))))) ⌝ }
 {
-    let first = set.base.rank();
+    let base = set.base.rank();
     let p = run::place(&s[..count], first);
-    let q = p + run::place(&s[p..count], first + 256);
+    let q = p + run::place(&s[p..count], base + (set.count as u64));
     let all = set.joined(&s[p..q]);
     replace(s, count, p, q, all)
 }
@@ -59,10 +65,10 @@ fn join_some(s: &mut [u64], count: usize, set: SequenceNumberSet) -> usize
 pub fn join(s: &mut [u64], count: usize, set: SequenceNumberSet, lo: u64, hi: u64) -> usize
     ensures { λ r. ⌜ Gives1 r (now (s .exit)) (joinedIn set lo hi count (now (s .entry))) ⌝ }
 {
-    let none = joins_none(set, lo, hi);
-    if (s.len() < count) | none {
+    let next = first_asked(set, lo, hi);
+    if (s.len() < count) | next.none {
         return count;
     }
     let asked = set.cut(lo, hi);
-    join_some(s, count, asked)
+    join_some(s, count, asked, next.rank)
 }

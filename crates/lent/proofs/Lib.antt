@@ -10,6 +10,9 @@ pub mod Fold1
 pub mod FoldFrom
 pub mod FoldBack
 pub mod Walk1
-pub mod Whole0
 pub mod Whole1
-pub mod Back1
+pub mod Settle
+pub mod SettleTwo
+pub mod LookTwo
+pub mod Through
+pub mod LentWith

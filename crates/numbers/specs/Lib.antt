@@ -1,5 +1,6 @@
 -- The definitions of `numbers`.
 pub mod Number
 pub mod Refusals
+pub mod Answers
 pub mod Promise
 pub mod Cursor

@@ -2,7 +2,7 @@
 -- Assumes nothing.
 use mathlib.Core.Path.{_≡_}
 
--- what a call leaves: its result, and the later content of one, two or three things lent
+-- what a call leaves: its result, and the later content of one to four things lent
 pub record Left1 (A B : Type 0) : Type 0 where
   pub result : A
   pub first : B
@@ -17,6 +17,13 @@ pub record Left3 (A B C D : Type 0) : Type 0 where
   pub first : B
   pub second : C
   pub third : D
+
+pub record Left4 (A B C D E : Type 0) : Type 0 where
+  pub result : A
+  pub first : B
+  pub second : C
+  pub third : D
+  pub fourth : E
 
 -- the promise: they are those of the outcome
 pub record Gives1 {A B : Type 0} (r : A) (u : B) (o : Left1 A B) : Type 0 where
@@ -33,3 +40,10 @@ pub record Gives3 {A B C D : Type 0} (r : A) (u : B) (v : C) (w : D) (o : Left3 
   pub first : u ≡ o .first
   pub second : v ≡ o .second
   pub third : w ≡ o .third
+
+pub record Gives4 {A B C D E : Type 0} (r : A) (u : B) (v : C) (w : D) (x : E) (o : Left4 A B C D E) : Type 0 where
+  pub result : r ≡ o .result
+  pub first : u ≡ o .first
+  pub second : v ≡ o .second
+  pub third : w ≡ o .third
+  pub fourth : x ≡ o .fourth

@@ -1,5 +1,6 @@
 // Sequence numbers and fragment numbers, kept apart; and the numbers that calls return, in the order in which they apply.
 pub mod answer;
+pub mod answers;
 pub mod arith;
 pub mod cursor;
 pub mod fragment_number;

@@ -9,9 +9,12 @@ use lib.ListN.{length, getD, set}
 use borrow.Author.Tests.{ltb-false, eq-eqb}
 use Rattle.numbers.specs.Number.{rankOf, negative, numberAt}
 use Rattle.numbers.specs.Refusals.{row, rowsOf, answerOf, isDone, unless, done}
-use Rattle.numbers.specs.Promise.{Left1, Left2, Left3}
+use Rattle.numbers.specs.Answers.{earlier, inTurn, answered}
+use Rattle.numbers.specs.Promise.{Left1, Left2, Left4}
 use Rattle.numbers.specs.declared.answer.Answer.{Answer}
 use Rattle.numbers.specs.declared.answer.Rows.{Rows}
+use Rattle.numbers.specs.declared.sequence_number.SequenceNumber.{SequenceNumber}
+use Rattle.numbers.proofs.Ranks.{rank-back}
 use Rattle.number_sets.specs.Bits.{NumberSet, members}
 use Rattle.rtps_reader_proxy.specs.declared.acks.AckNacked.{AckNacked}
 use Rattle.rtps_reader_proxy.specs.Reader.{Reader, baseOf, isAhead, ackedAfter, acknowledge, leftOut}
@@ -20,24 +23,43 @@ use Rattle.reader_record.specs.Whole.{Valid}
 use Rattle.reader_list.specs.declared.heads.ReaderHead.{ReaderHead}
 use Rattle.reader_list.specs.declared.calls.Found.{Found}
 use Rattle.reader_list.specs.Readers.{Head, frontier, placeOf, headAt, acknowledged, fits}
-use Rattle.reader_list.specs.Slots.{readers, headForm, listForm, freeSlot, listed, unknown, foundOf, ackOf}
+use Rattle.reader_list.specs.Slots.{readers, headForm, listForm, freeSlot, listed, unknown, frontOf, foundOf, ackOf}
 use Rattle.reader_list.proofs.Kept.{fits-acknowledged}
+use Rattle.writer_send_buffer.specs.declared.flow.WriterSendBuffer.{WriterSendBuffer}
 use Rattle.writer_send_buffer.specs.declared.frontiers.Woken.{Woken}
 use Rattle.writer_send_buffer.specs.Flow.{stored}
-use Rattle.writer_send_buffer.specs.Buffer.{form as flowForm, toldNo}
+use Rattle.writer_send_buffer.specs.Buffer.{form as flowForm}
 use Rattle.writer_send_buffer.specs.Samples.{isCoherentStore}
-use Rattle.writer_send_buffer.proofs.Steps.{at-least-0}
-use Rattle.writer_steps.specs.declared.acks.AckStep.{AckStep}
-use Rattle.writer_steps.specs.Answers.{firstAnswer}
-use Rattle.writer_steps.specs.Readers.{listStep}
-use Rattle.writer_steps.specs.Acks.{agreeOf}
+use Rattle.writer_send_buffer.proofs.Steps.{at-least-0, form-coherent as flow-coherent}
+use Rattle.writer_steps.specs.declared.acks.AckTold.{AckTold}
+use Rattle.writer_steps.specs.Readers.{storedOf, withFlow}
+use Rattle.writer_steps.specs.Acks.{ackedBy, agreeRows, besideAck, ackedList, ackLeft}
 use Rattle.other_end.specs.System.{State, tried, ackRows, ackedHeads, acknowledges}
-use Rattle.other_end.specs.AsCalled.{ackOn, Acks}
+use Rattle.other_end.specs.AsCalled.{setForm, ackOn, Acks}
 use Rattle.other_end.proofs.Heads.{Low, low-set, low-at}
 use Rattle.other_end.proofs.Forms.{list-back, list-set, list-get}
 use Rattle.other_end.proofs.Steps.{does-ack}
-use Rattle.other_end.proofs.Listed.{store-kept, list-done, list-refused}
+use Rattle.other_end.proofs.Listed.{stores, store-kept}
 use Rattle.other_end.proofs.Sound.{Sound}
+
+-- THE LOOK FOR A READER, by whether it is unknown
+abbrev lookedBy : State → ℕ → Bool → Found
+lookedBy s i off =
+    unless (listed false true false off false) (λ no. record { answer = no; place = 0; head = freeSlot }) (record { answer = done; place = placeOf i (s .heads); head = headForm (headAt i (s .heads)) })
+
+module _ (s : State) (h : Sound s) (i : ℕ) where
+  looked-is : foundOf (listForm (s .heads)) i ≡ lookedBy s i (unknown i (s .heads))
+  looked-is =
+      ap (λ (y : List Head). by (fits y) (unknown i y) (placeOf i y) (getD (listForm (s .heads)) (placeOf i y) freeSlot)) (list-back (s .flow .last) (s .heads) (h .flow .last-most) (h .low))
+      ∙ ap (λ (t : Bool). by t (unknown i (s .heads)) (placeOf i (s .heads)) (getD (listForm (s .heads)) (placeOf i (s .heads)) freeSlot)) (h .list)
+      ∙ ap (by true (unknown i (s .heads)) (placeOf i (s .heads))) (list-get (s .heads) (placeOf i (s .heads)))
+    where
+      by : Bool → Bool → ℕ → ReaderHead → Found
+      by t off k x = unless (listed false t false off false) (λ no. record { answer = no; place = 0; head = freeSlot }) (record { answer = done; place = k; head = x })
+
+  -- one that is there is found
+  pub looked-done : unknown i (s .heads) ≡ false → foundOf (listForm (s .heads)) i .answer ≡ done
+  looked-done e = ap (λ (d : Found). d .answer) (looked-is ∙ ap (lookedBy s i) e)
 
 module _ (s : State) (h : Sound s) (i : ℕ) (z : NumberSet) (r : Reader) (v : Valid r) (near : z .base ≤ suc (s .flow .last)) (agree : unknown i (s .heads) ≡ false → headAt i (s .heads) .acked ≡ r .acked) where
   abbrev list : List ReaderHead
@@ -51,29 +73,22 @@ module _ (s : State) (h : Sound s) (i : ℕ) (z : NumberSet) (r : Reader) (v : V
 
   -- THE CALLS, by whether the set is too long, the reader unknown, and the base ahead
 
-  abbrev nackedBy : Bool → Bool → Left2 AckNacked (List ℕ) (List ℕ)
-  nackedBy long ahead =
-      unless (rowsOf (row 1 false ∷ row 3 long ∷ row 2 false ∷ row 11 false ∷ row 12 ahead ∷ []))
+  abbrev nackedBy : Answer → Answer → Bool → Bool → Left2 AckNacked (List ℕ) (List ℕ)
+  nackedBy beside last long ahead =
+      answered (inTurn (earlier (answerOf (rowsOf (row 1 false ∷ row 3 long ∷ row 2 false ∷ row 11 false ∷ row 12 ahead ∷ []))) beside) last)
       (λ a. record { result = record { answer = a; «left_out» = 0; proxy = proxyOf r }; first = unsentRoom r; second = gapRoom r })
       (record { result = record { answer = done; «left_out» = leftOut (s .flow .last) (z .base) (members z) r; proxy = proxyOf r₁ }; first = unsentRoom r₁; second = gapRoom r₁ })
 
   abbrev foundBy : Bool → Found
-  foundBy off =
-      unless (listed false true false off false) (λ no. record { answer = no; place = 0; head = freeSlot }) (record { answer = done; place = placeOf i (s .heads); head = headForm (headAt i (s .heads)) })
+  foundBy = lookedBy s i
 
   found-is : foundOf (listForm (s .heads)) i ≡ foundBy (unknown i (s .heads))
-  found-is =
-      back (λ y. by (fits y) (unknown i y) (placeOf i y) (getD (listForm (s .heads)) (placeOf i y) freeSlot))
-      ∙ ap (λ (t : Bool). by t (unknown i (s .heads)) (placeOf i (s .heads)) (getD (listForm (s .heads)) (placeOf i (s .heads)) freeSlot)) (h .list)
-      ∙ ap (by true (unknown i (s .heads)) (placeOf i (s .heads))) (list-get (s .heads) (placeOf i (s .heads)))
-    where
-      by : Bool → Bool → ℕ → ReaderHead → Found
-      by t off k x = unless (listed false t false off false) (λ no. record { answer = no; place = 0; head = freeSlot }) (record { answer = done; place = k; head = x })
+  found-is = looked-is s h i
 
-  abbrev ackedBy : Bool → ℕ → Left1 Answer (List ReaderHead)
-  ackedBy off a = unless (listed false true false off false) (λ no. record { result = no; first = listForm (s .heads) }) (record { result = done; first = listForm (acknowledged i a (s .heads)) })
+  abbrev ackedTo : Bool → ℕ → Left1 Answer (List ReaderHead)
+  ackedTo off a = unless (listed false true false off false) (λ no. record { result = no; first = listForm (s .heads) }) (record { result = done; first = listForm (acknowledged i a (s .heads)) })
 
-  acked-is : (a : ℕ) → ackOf (listForm (s .heads)) (record { id = i; acked = numberAt a }) ≡ ackedBy (unknown i (s .heads)) a
+  acked-is : (a : ℕ) → ackOf (listForm (s .heads)) (record { id = i; acked = numberAt a }) ≡ ackedTo (unknown i (s .heads)) a
   acked-is a =
       back (λ y. by (fits y) (negative (numberAt a)) (unknown i y) (placeOf i y) (getD (listForm (s .heads)) (placeOf i y) freeSlot))
       ∙ ap (λ (t : Bool). by t (negative (numberAt a)) (unknown i (s .heads)) (placeOf i (s .heads)) (getD (listForm (s .heads)) (placeOf i (s .heads)) freeSlot)) (h .list)
@@ -88,7 +103,7 @@ module _ (s : State) (h : Sound s) (i : ℕ) (z : NumberSet) (r : Reader) (v : V
           (record { result = done; first = set (listForm (s .heads)) k (record { id = i; reliable = x .reliable; acked = numberAt a }) })
 
   -- head and record agree on acked, where both are there
-  agrees : (off : Bool) → unknown i (s .heads) ≡ off → agreeOf (foundBy off) (proxyOf r) ≡ done
+  agrees : (off : Bool) → unknown i (s .heads) ≡ off → answerOf (agreeRows (foundBy off) (proxyOf r)) ≡ done
   agrees true e = refl
   agrees false e =
       ap (λ (n : ℕ). said (eqb (rankOf (numberAt n)) (rankOf (numberAt (r .acked))))) (agree e)
@@ -97,39 +112,45 @@ module _ (s : State) (h : Sound s) (i : ℕ) (z : NumberSet) (r : Reader) (v : V
       said : Bool → Answer
       said t = answerOf (rowsOf (row 1 (not t) ∷ []))
 
+  -- what is asked beside it, and the list as it would leave it
+  abbrev besideBy : Bool → Answer
+  besideBy off = earlier (earlier (foundBy off .answer) done) done
+
+  beside-is : (off : Bool) → unknown i (s .heads) ≡ off → besideAck (flowForm (s .flow)) (foundOf list i) (proxyOf r) ≡ besideBy off
+  beside-is off e =
+      ap (λ (d : Found). besideAck (flowForm (s .flow)) d (proxyOf r)) (found-is ∙ ap foundBy e)
+      ∙ ap (λ (a : Answer). withFlow (earlier (foundBy off .answer) a) (flowForm (s .flow))) (agrees off e)
+      ∙ ap (λ (t : Bool). earlier (earlier (foundBy off .answer) done) (answerOf (rowsOf (row 1 (not t) ∷ [])))) (flow-coherent (s .flow) (h .flow))
+
+  acked-by : ackedBy (setForm z) (proxyOf r) ≡ numberAt (r₁ .acked)
+  acked-by =
+      ap (λ (n : ℕ). numberAt (ackedAfter n (rankOf (numberAt (z .base))))) (rank-back (r .acked) (omega (arith, v .acked)))
+      ∙ ap (λ (n : ℕ). numberAt (ackedAfter (r .acked) n)) (rank-back (z .base) (omega (arith, near, h .flow .last-most)))
+
+  list-is : (off : Bool) → unknown i (s .heads) ≡ off → ackedList list i (setForm z) (proxyOf r) ≡ ackedTo off (r₁ .acked) .first
+  list-is off e =
+      ap (λ (n : SequenceNumber). ackOf list (record { id = i; acked = n }) .first) acked-by
+      ∙ ap (λ (o : Left1 Answer (List ReaderHead)). o .first) (acked-is (r₁ .acked))
+      ∙ ap (λ (t : Bool). ackedTo t (r₁ .acked) .first) e
+
   -- THE STEP of them
+  abbrev stepBy : Answer → Woken → List ReaderHead → Bool → Bool → Left4 AckTold (List ReaderHead) WriterSendBuffer (List ℕ) (List ℕ)
+  stepBy beside w new long ahead = ackLeft (nackedBy beside (w .told .answer) long ahead) w (flowForm (s .flow)) list new
 
-  abbrev beforeBy : Left2 AckNacked (List ℕ) (List ℕ) → Answer → Left1 Answer (List ReaderHead) → Left1 Answer (List ReaderHead)
-  beforeBy n agreed put = record { result = firstAnswer (n .result .answer ∷ agreed ∷ put .result ∷ []); first = put .first }
+  abbrev storedTo : List ReaderHead → Woken
+  storedTo l = storedOf (frontOf l) (flowForm (s .flow))
 
-  abbrev takenBy : Bool → Left2 AckNacked (List ℕ) (List ℕ) → Left1 Woken (List ReaderHead) → Left2 AckStep (List ℕ) (List ℕ)
-  takenBy t n w =
-      cond {A = Left2 AckStep (List ℕ) (List ℕ)} t
-      (record { result = record { woken = w .result; «left_out» = n .result .«left_out»; proxy = n .result .proxy }; first = n .first; second = n .second })
-      (record { result = record { woken = w .result; «left_out» = 0; proxy = proxyOf r }; first = unsentRoom r; second = gapRoom r })
+  abbrev stepOf : Bool → Bool → Bool → Left4 AckTold (List ReaderHead) WriterSendBuffer (List ℕ) (List ℕ)
+  stepOf long off ahead = stepBy (besideBy off) (storedTo (ackedTo off (r₁ .acked) .first)) (ackedTo off (r₁ .acked) .first) long ahead
 
-  abbrev stepIf : Bool → Left2 AckNacked (List ℕ) (List ℕ) → Left1 Woken (List ReaderHead) → Left3 AckStep (List ReaderHead) (List ℕ) (List ℕ)
-  stepIf t n w = record { result = takenBy t n w .result; first = w .first; second = takenBy t n w .first; third = takenBy t n w .second }
-
-  abbrev stepBy : Left2 AckNacked (List ℕ) (List ℕ) → Left1 Answer (List ReaderHead) → Left3 AckStep (List ReaderHead) (List ℕ) (List ℕ)
-  stepBy n o = stepIf (isDone (listStep list (flowForm (s .flow)) o .result .told .answer)) n (listStep list (flowForm (s .flow)) o)
-
-  abbrev stepOf : Left2 AckNacked (List ℕ) (List ℕ) → Found → Left3 AckStep (List ReaderHead) (List ℕ) (List ℕ)
-  stepOf n found = stepBy n (beforeBy n (agreeOf found (proxyOf r)) (ackOf list (record { id = i; acked = n .result .proxy .«all_acked_before» })))
-
-  step-is : ackOn i z s r ≡ stepOf (nackedBy (ltb 256 (z .count)) (isAhead (s .flow .last) (z .base))) (foundBy (unknown i (s .heads)))
-  step-is =
-      ap (λ (n : Left2 AckNacked (List ℕ) (List ℕ)). stepOf n (foundOf (listForm (s .heads)) i)) (does-ack r v (s .flow .last) (h .flow .last-most) z near)
-      ∙ ap (stepOf (nackedBy (ltb 256 (z .count)) (isAhead (s .flow .last) (z .base)))) found-is
-
-  -- refused: nothing changes
-  refused : (n : Left2 AckNacked (List ℕ) (List ℕ)) (rows : Rows) → isDone (answerOf rows) ≡ false → (o : Left1 Answer (List ReaderHead)) (hs : List Head) → Low (s .flow .last) hs → fits hs ≡ true
-      → o ≡ record { result = answerOf rows; first = listForm hs } → Acks (stepBy n o) (answerOf rows) s s r
-  refused n rows e o hs low fit eo =
-      let w = ap (listStep list (flowForm (s .flow))) eo ∙ list-refused (s .flow) (h .flow) hs low fit rows e list in
-      subst (λ (x : Left1 Woken (List ReaderHead)). Acks (stepIf (isDone (x .result .told .answer)) n x) (answerOf rows) s s r) (sym w)
-      (subst (λ (t : Bool). Acks (stepIf t n (record { result = record { told = toldNo (answerOf rows); flow = flowForm (s .flow) }; first = list })) (answerOf rows) s s r) (sym e)
-      (record { answer = refl; flow = refl; list = refl; head = refl; unsent = refl; gaps = refl; store = λ store lens c. c }))
+  step-is : (off : Bool) → unknown i (s .heads) ≡ off → ackOn i z s r ≡ stepOf (ltb 256 (z .count)) off (isAhead (s .flow .last) (z .base))
+  step-is off e =
+      ap (λ (n : Left2 AckNacked (List ℕ) (List ℕ)). ackLeft n (storedTo new) (flowForm (s .flow)) list new) (does-ack r v (s .flow .last) (h .flow .last-most) (besideAck (flowForm (s .flow)) (foundOf list i) (proxyOf r)) (storedTo new .told .answer) z near)
+      ∙ ap (λ (b : Answer). stepBy b (storedTo new) new (ltb 256 (z .count)) (isAhead (s .flow .last) (z .base))) (beside-is off e)
+      ∙ ap (λ (l : List ReaderHead). stepBy (besideBy off) (storedTo l) l (ltb 256 (z .count)) (isAhead (s .flow .last) (z .base))) (list-is off e)
+    where
+      new : List ReaderHead
+      new = ackedList (listForm (s .heads)) i (setForm z) (proxyOf r)
 
   -- the list with the acked a, which the reader's head has or is to get
   module _ (on : unknown i (s .heads) ≡ false) (a : ℕ) (top : a ≤ suc (s .flow .last)) where
@@ -145,25 +166,17 @@ module _ (s : State) (h : Sound s) (i : ℕ) (z : NumberSet) (r : Reader) (v : V
   abbrev rows3 : Bool → Bool → Bool → Rows
   rows3 long off ahead = rowsOf (row 1 false ∷ row 3 long ∷ row 2 false ∷ row 11 off ∷ row 12 ahead ∷ [])
 
-  before-is : (n : Left2 AckNacked (List ℕ) (List ℕ)) (off : Bool) → unknown i (s .heads) ≡ off → (a : ℕ)
-      → beforeBy n (agreeOf (foundBy off) (proxyOf r)) (ackOf list (record { id = i; acked = numberAt a })) ≡ beforeBy n done (ackedBy off a)
-  before-is n off e a =
-      ap (λ (x : Answer). beforeBy n x (ackOf list (record { id = i; acked = numberAt a }))) (agrees off e)
-      ∙ ap (beforeBy n done) (acked-is a ∙ ap (λ (t : Bool). ackedBy t a) e)
-
+  -- refused, nothing changes, whatever would have been stored
   acks : (long off ahead : Bool) → unknown i (s .heads) ≡ off → isAhead (s .flow .last) (z .base) ≡ ahead
-      → Acks (stepOf (nackedBy long ahead) (foundBy off)) (answerOf (rows3 long off ahead)) s (tried (rows3 long off ahead) s (acknowledges i z s)) (unless (rows3 long off ahead) (λ a. r) r₁)
-  acks true true ahead e q = refused (nackedBy true ahead) (rows3 true true ahead) refl _ (s .heads) (h .low) (h .list) (before-is (nackedBy true ahead) true e (r .acked))
-  acks true false ahead e q =
-      refused (nackedBy true ahead) (rows3 true false ahead) refl _ (acknowledged i (r .acked) (s .heads)) (low-acked e (r .acked) (old-top e)) (fits-acked e (r .acked) (old-top e)) (before-is (nackedBy true ahead) false e (r .acked))
-  acks false true false e q = refused (nackedBy false false) (rows3 false true false) refl _ (s .heads) (h .low) (h .list) (before-is (nackedBy false false) true e (r₁ .acked))
-  acks false true true e q = refused (nackedBy false true) (rows3 false true true) refl _ (s .heads) (h .low) (h .list) (before-is (nackedBy false true) true e (r .acked))
-  acks false false true e q =
-      refused (nackedBy false true) (rows3 false false true) refl _ (acknowledged i (r .acked) (s .heads)) (low-acked e (r .acked) (old-top e)) (fits-acked e (r .acked) (old-top e)) (before-is (nackedBy false true) false e (r .acked))
+      → Acks (stepOf long off ahead) (answerOf (rows3 long off ahead)) s (tried (rows3 long off ahead) s (acknowledges i z s)) (unless (rows3 long off ahead) (λ a. r) r₁)
+  acks true true ahead e q = record { answer = refl; flow = refl; list = refl; head = refl; unsent = refl; gaps = refl; store = λ store lens c. c }
+  acks true false ahead e q = record { answer = refl; flow = refl; list = refl; head = refl; unsent = refl; gaps = refl; store = λ store lens c. c }
+  acks false true false e q = record { answer = refl; flow = refl; list = refl; head = refl; unsent = refl; gaps = refl; store = λ store lens c. c }
+  acks false true true e q = record { answer = refl; flow = refl; list = refl; head = refl; unsent = refl; gaps = refl; store = λ store lens c. c }
+  acks false false true e q = record { answer = refl; flow = refl; list = refl; head = refl; unsent = refl; gaps = refl; store = λ store lens c. c }
   acks false false false e q =
-      let top : r₁ .acked ≤ suc (s .flow .last) = omega (arith, old-top e, ltb-false (suc (s .flow .last)) (baseOf (z .base)) q) in
-      let w = ap (listStep list (flowForm (s .flow))) (before-is (nackedBy false false) false e (r₁ .acked)) ∙ list-done (s .flow) (h .flow) (acknowledged i (r₁ .acked) (s .heads)) (low-acked e (r₁ .acked) top) (fits-acked e (r₁ .acked) top) list in
-      subst (λ (x : Left1 Woken (List ReaderHead)). Acks (stepIf (isDone (x .result .told .answer)) (nackedBy false false) x) done s (acknowledges i z s) r₁) (sym w)
+      subst (λ (w : Woken). Acks (stepBy done w (listForm (acknowledged i (r₁ .acked) (s .heads))) false false) done s (acknowledges i z s) r₁)
+      (sym (stores (s .flow) (h .flow) (acknowledged i (r₁ .acked) (s .heads)) (low-acked e (r₁ .acked) top) (fits-acked e (r₁ .acked) top)))
       (record {
         answer = refl;
         flow = ap (λ (hs : List Head). flowForm (stored (frontier hs) (s .flow))) same;
@@ -175,10 +188,13 @@ module _ (s : State) (h : Sound s) (i : ℕ) (z : NumberSet) (r : Reader) (v : V
             (store-kept (s .flow) (h .flow) (acknowledged i (r₁ .acked) (s .heads)) (low-acked e (r₁ .acked) top) (fits-acked e (r₁ .acked) top) store lens c);
       })
     where
+      top : r₁ .acked ≤ suc (s .flow .last)
+      top = omega (arith, old-top e, ltb-false (suc (s .flow .last)) (baseOf (z .base)) q)
+
       same : acknowledged i (ackedAfter (r .acked) (z .base)) (s .heads) ≡ ackedHeads i z s
       same = ap (λ (n : ℕ). acknowledged i (ackedAfter n (z .base)) (s .heads)) (sym (agree e))
 
   pub acks-so : Acks (ackOn i z s r) (answerOf (ackRows i z s)) s (tried (ackRows i z s) s (acknowledges i z s)) (unless (ackRows i z s) (λ a. r) r₁)
   acks-so =
-      subst (λ (o : Left3 AckStep (List ReaderHead) (List ℕ) (List ℕ)). Acks o (answerOf (ackRows i z s)) s (tried (ackRows i z s) s (acknowledges i z s)) (unless (ackRows i z s) (λ a. r) r₁)) (sym step-is)
+      subst (λ (o : Left4 AckTold (List ReaderHead) WriterSendBuffer (List ℕ) (List ℕ)). Acks o (answerOf (ackRows i z s)) s (tried (ackRows i z s) s (acknowledges i z s)) (unless (ackRows i z s) (λ a. r) r₁)) (sym (step-is (unknown i (s .heads)) refl))
       (acks (ltb 256 (z .count)) (unknown i (s .heads)) (isAhead (s .flow .last) (z .base)) refl refl)

@@ -1,13 +1,13 @@
 -- Every event of the writer is what its calls do, on the forms of the system's records. Assumes nothing.
 use Prim.Native.Nat.{ℕ, zero, suc, _+_, _*_, _≤_, max}
 use mathlib.Core.Path.{_≡_, refl, sym, ap, subst, _∙_}
-use mathlib.Core.Bool.{Bool, true, false, not, cond}
+use mathlib.Core.Bool.{Bool, true, false, not, cond, _||_}
 use mathlib.Core.List.{List, [], _∷_, map}
 use mathlib.Core.Option.{Option, none, some}
 use native.Mathlib.Omega.{arith}
 use lib.Dec.{ltb, eqb}
 use lib.ListN.{length, set, replicate}
-use borrow.Author.Tests.{eqb-true, eqb-false, eq-eqb}
+use borrow.Author.Tests.{eqb-true, eqb-false, eq-eqb, ne-eqb}
 use Rattle.sets.proofs.Bools.{and-both, clash}
 use Rattle.numbers.specs.Number.{topNumber, rankOf, numberAt}
 use Rattle.numbers.specs.Refusals.{answerOf, isDone, unless, done}
@@ -19,10 +19,12 @@ use Rattle.numbers.proofs.Refused.{done-is}
 use Rattle.number_sets.specs.Bits.{NumberSet, members}
 use Rattle.rtps_reader_proxy.specs.declared.proxy.Changed.{Changed}
 use Rattle.rtps_reader_proxy.specs.Reader.{Reader, acknowledge, notified}
+use Rattle.rtps_reader_proxy.specs.Record.{headOf as proxyOf, unsentOk, unsentRoom}
 use Rattle.reader_record.specs.Whole.{form, Valid}
 use Rattle.reader_list.specs.declared.heads.ReaderHead.{ReaderHead}
 use Rattle.reader_list.specs.Readers.{free}
-use Rattle.reader_list.specs.Slots.{unknown, listForm, freeSlot}
+use Rattle.reader_list.specs.declared.calls.Found.{Found}
+use Rattle.reader_list.specs.Slots.{unknown, listForm, freeSlot, foundOf}
 use Rattle.writer_send_buffer.specs.declared.limits.Kind.{Kind}
 use Rattle.writer_send_buffer.specs.declared.limits.Limits.{Limits}
 use Rattle.writer_send_buffer.specs.declared.flow.Moved.{Moved}
@@ -36,17 +38,20 @@ use Rattle.writer_send_buffer.specs.Samples.{isCoherentStore, startOf, slotOf, 
 use Rattle.writer_send_buffer.specs.History.{admit, setSent, removeBefore}
 use Rattle.writer_send_buffer.proofs.Kept.{coherent-step}
 use Rattle.writer_send_buffer.proofs.Steps.{view-form, form-coherent as flow-coherent, fits-blank}
-use Rattle.writer_steps.specs.Write.{told}
+use Rattle.writer_write.specs.Write.{Kept, Written, told, writeStep}
+use Rattle.writer_write.specs.InPlace.{writeOf}
+use Rattle.writer_write.specs.Standing.{standing, allOk, standsAs}
+use Rattle.writer_write.proofs.Standing.{whole-after, roomy-after}
 use Rattle.other_end.specs.Calls.{Call, result, callRows}
 use Rattle.other_end.specs.System.{Line, Body, sample, gap, beat, ack, Msg, State, Event, match, depart, write, sentTo, evictTo, call, heartbeat, send, reply, deliver, find, upd, nth, onServer, withLines, withFlow, tried, ackRows, acknowledges, called, writeRows, sentRows, evictRows, wrote, evicts, arrive, step}
 use Rattle.other_end.specs.AsCalled.{Starts, Then, calledOn, Acks, ackOn, Arrives, Delivers, keptForm, Writes, WriteCalled, SentCalled, EvictCalled, Outcome, CallCalled, AsCalled}
 use Rattle.other_end.proofs.Found.{none-some, find-same, All, found-all}
 use Rattle.other_end.proofs.Calls.{done-clear}
 use Rattle.other_end.proofs.Fine.{Sane}
-use Rattle.other_end.proofs.Steps.{does-notify, does-call, does-sent, does-evict}
+use Rattle.other_end.proofs.Steps.{unsent-ok, does-notify, does-call, does-sent, does-evict}
 use Rattle.other_end.proofs.Sound.{Sound}
 use Rattle.other_end.proofs.Listed.{match-called, depart-called}
-use Rattle.other_end.proofs.Acked.{acks-so}
+use Rattle.other_end.proofs.Acked.{looked-done, acks-so}
 use Rattle.other_end.proofs.Sends.{send-called}
 
 -- A NEW WRITER: no limit of those allowed is 0
@@ -82,6 +87,14 @@ starts k l slots e = record { flow = ap by counts ∙ ap (λ (t : Bool). made t 
     frees : (n : ℕ) → listForm (replicate n free) ≡ replicate n freeSlot
     frees zero = refl
     frees (suc n) = ap (λ (hs : List ReaderHead). freeSlot ∷ hs) (frees n)
+
+-- a write as the calls on the store and on each reader's own room do it
+pub record Stepped (o : Written) (a : Answer) (s′ : State) : Type 0 where
+  pub answer : o .writer .result .answer ≡ a
+  pub flow : o .writer .first ≡ flowForm (s′ .flow)
+  pub number : isDone a ≡ true → o .writer .result .number ≡ numberAt (s′ .flow .last)
+  pub readers : o .readers ≡ map keptForm (s′ .lines)
+  pub store : isCoherentStore (o .writer .first) (length (o .writer .second)) (o .writer .third) ≡ true
 
 module _ (s : State) (h : Sound s) where
   -- AN ACKNACK
@@ -134,9 +147,10 @@ module _ (s : State) (h : Sound s) where
       one : told (numberAt n) (keptForm l) ≡ keptForm (onServer (notified n) l)
       one = ap (λ (o : Left1 Changed (List ℕ)). record { proxy = o .result .proxy; unsent = o .first }) (does-notify (l .server) (v .0) n p q)
 
-  write-called : (len : ℕ) (opted : Bool) → WriteCalled len opted s
-  write-called len opted store lens payload el c =
-      subst (λ (o : Left3 Numbered WriterSendBuffer (List ℕ) (List ℕ)). Writes (record { writer = o; readers = cond (isDone (o .result .answer)) (map (told (o .result .number)) (map keptForm (s .lines))) (map keptForm (s .lines)) }) (answerOf (writeRows len opted s)) (step (write len opted) s)) (sym is)
+  write-stepped : (len : ℕ) (opted : Bool) (store lens payload : List ℕ) → length payload ≡ len → isCoherentStore (flowForm (s .flow)) (length store) lens ≡ true
+      → Stepped (writeStep (flowForm (s .flow)) store lens payload opted (map keptForm (s .lines))) (answerOf (writeRows len opted s)) (step (write len opted) s)
+  write-stepped len opted store lens payload el c =
+      subst (λ (o : Left3 Numbered WriterSendBuffer (List ℕ) (List ℕ)). Stepped (record { writer = o; readers = cond (isDone (o .result .answer)) (map (told (o .result .number)) (map keptForm (s .lines))) (map keptForm (s .lines)) }) (answerOf (writeRows len opted s)) (step (write len opted) s)) (sym is)
       (go (isDone (answerOf (writeRows len opted s))) refl (subst fine is (coherent-step (record { flow = flowForm (s .flow); bytes = store; lens = lens }) c (admit payload opted))))
     where
       by : Bool → ℕ → Flow → Left3 Numbered WriterSendBuffer (List ℕ) (List ℕ)
@@ -168,7 +182,7 @@ module _ (s : State) (h : Sound s) where
       not-by = record { result = noNumber (answerOf (writeRows len opted s)); first = flowForm (s .flow); second = store; third = lens }
 
       outcome : Left3 Numbered WriterSendBuffer (List ℕ) (List ℕ) → State → Type 0
-      outcome o s′ = Writes (record { writer = o; readers = cond (isDone (o .result .answer)) (map (told (o .result .number)) (map keptForm (s .lines))) (map keptForm (s .lines)) }) (answerOf (writeRows len opted s)) s′
+      outcome o s′ = Stepped (record { writer = o; readers = cond (isDone (o .result .answer)) (map (told (o .result .number)) (map keptForm (s .lines))) (map keptForm (s .lines)) }) (answerOf (writeRows len opted s)) s′
 
       go : (t : Bool) → isDone (answerOf (writeRows len opted s)) ≡ t → fine (cond t done-by not-by) → outcome (cond t done-by not-by) (cond t (wrote opted s) s)
       go true e w =
@@ -189,6 +203,24 @@ module _ (s : State) (h : Sound s) where
             store = w;
             readers = ap (λ (t : Bool). cond t (map (told (numberAt 0)) (map keptForm (s .lines))) (map keptForm (s .lines))) e;
           }
+
+  -- in place, where the readers' records stand side by side
+  write-called : (len : ℕ) (opted : Bool) → WriteCalled len opted s
+  write-called len opted store lens payload hs u el c st room =
+      record { answer = w .answer; flow = w .flow; number = w .number; readers = w .readers; room = roomy-after hs u room ok (flowForm (s .flow)) store lens payload opted; store = w .store }
+    where
+      all-ok : (ls : List Line) → All (λ l. Valid (l .server)) ls → allOk (map keptForm ls) ≡ true
+      all-ok [] v = refl
+      all-ok (l ∷ ls) v = and-both (unsentOk (proxyOf (l .server)) (unsentRoom (l .server))) (allOk (map keptForm ls)) (unsent-ok (l .server) (v .0)) (all-ok ls (v .1))
+
+      ok : allOk (standing hs u) ≡ true
+      ok = ap allOk st ∙ all-ok (s .lines) (found-all (λ l. Valid (l .server)) (s .lines) (h .apart) (λ i l q. h .lines i l q .valid))
+
+      w : Stepped (standsAs (writeOf (flowForm (s .flow)) store lens payload opted hs u)) (answerOf (writeRows len opted s)) (step (write len opted) s)
+      w =
+          subst (λ (o : Written). Stepped o (answerOf (writeRows len opted s)) (step (write len opted) s))
+          (sym (whole-after hs u room ok (flowForm (s .flow)) store lens payload opted ∙ ap (writeStep (flowForm (s .flow)) store lens payload opted) st))
+          (write-stepped len opted store lens payload el c)
 
   -- THE FRONTIERS AND EVICTION
   sent-called : (n : SequenceNumber) → SentCalled n s
@@ -224,15 +256,21 @@ module _ (s : State) (h : Sound s) where
   -- THE OTHER CALLS
   call-called : (i : ℕ) (c : Call) → CallCalled i c s
   call-called i c l e =
-      subst (λ (o : Option Line). Then i (called i c o s) (λ l′. calledOn c (numberAt (s .flow .last)) (form (l .server)) ≡ record { answer = answerOf rows; left = form (l′ .server) })) (sym e)
-      (go (isDone (answerOf rows)) refl (does-call (l .server) (h .lines i l e .valid) (s .flow .last) (h .flow .last-most) c))
+      subst (λ (o : Option Line). Then i (called i c o s) (λ l′. calledOn (foundOf (listForm (s .heads)) i) c (numberAt (s .flow .last)) (form (l .server)) ≡ record { answer = answerOf rows; left = form (l′ .server) })) (sym e)
+      (go (isDone (answerOf rows)) refl (does-call (l .server) (h .lines i l e .valid) (s .flow .last) (h .flow .last-most) (foundOf (listForm (s .heads)) i) (looked-done s h i known) c))
     where
+      looked : Found
+      looked = foundOf (listForm (s .heads)) i
+
+      known : unknown i (s .heads) ≡ false
+      known = λ j. ne-eqb i 0 (h .held i l e .some-id) j || not (h .held i l e .there j)
+
       rows : Rows
       rows = callRows (s .flow .last) c (l .server)
 
       go : (t : Bool) → isDone (answerOf rows) ≡ t
-          → calledOn c (numberAt (s .flow .last)) (form (l .server)) ≡ cond {A = Outcome} t (record { answer = done; left = form (result c (l .server)) }) (record { answer = answerOf rows; left = form (l .server) })
-          → Then i (cond t (withLines (upd i (onServer (result c)) (s .lines)) s) s) (λ l′. calledOn c (numberAt (s .flow .last)) (form (l .server)) ≡ record { answer = answerOf rows; left = form (l′ .server) })
+          → calledOn looked c (numberAt (s .flow .last)) (form (l .server)) ≡ cond {A = Outcome} t (record { answer = done; left = form (result c (l .server)) }) (record { answer = answerOf rows; left = form (l .server) })
+          → Then i (cond t (withLines (upd i (onServer (result c)) (s .lines)) s) s) (λ l′. calledOn looked c (numberAt (s .flow .last)) (form (l .server)) ≡ record { answer = answerOf rows; left = form (l′ .server) })
       go true d q = (
         onServer (result c) l,
         find-same i (onServer (result c)) (λ x. refl) (s .lines) l e,

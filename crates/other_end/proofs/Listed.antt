@@ -5,8 +5,8 @@ use mathlib.Core.Bool.{Bool, true, false, not, cond}
 use mathlib.Core.List.{List, [], _∷_}
 use lib.ListN.{length, set}
 use borrow.Author.Tests.{eqb-true, not-false}
-use Rattle.numbers.specs.Refusals.{answerOf, isDone, unless, done}
-use Rattle.numbers.specs.Promise.{Left1}
+use Rattle.numbers.specs.Refusals.{rowsOf, answerOf, isDone, unless, done}
+use Rattle.numbers.specs.Promise.{Left1, Left2}
 use Rattle.numbers.specs.declared.answer.Answer.{Answer}
 use Rattle.numbers.specs.declared.answer.Rows.{Rows}
 use Rattle.numbers.proofs.Refused.{done-is}
@@ -22,13 +22,14 @@ use Rattle.writer_send_buffer.specs.declared.flow.Told.{Told}
 use Rattle.writer_send_buffer.specs.declared.flow.WriterSendBuffer.{WriterSendBuffer}
 use Rattle.writer_send_buffer.specs.declared.frontiers.Woken.{Woken}
 use Rattle.writer_send_buffer.specs.Flow.{Flow, stored, wakes}
-use Rattle.writer_send_buffer.specs.Buffer.{form as flowForm, limited, toldNo, ackedOf}
+use Rattle.writer_send_buffer.specs.Buffer.{form as flowForm, isCoherent, limited, toldNo, ackedOf, woken}
 use Rattle.writer_send_buffer.specs.Samples.{isCoherentStore}
 use Rattle.writer_send_buffer.specs.History.{setAcked}
 use Rattle.writer_send_buffer.proofs.Sound.{Fits}
 use Rattle.writer_send_buffer.proofs.Kept.{coherent-step}
-use Rattle.writer_steps.specs.Answers.{earlier, firstAnswer}
-use Rattle.writer_steps.specs.Readers.{listStep}
+use Rattle.writer_send_buffer.proofs.Steps.{form-coherent as flow-coherent}
+use Rattle.writer_steps.specs.Readers.{notStored, storedOf, after, stepLeaves, listStep}
+use Rattle.writer_steps.proofs.Together.{with-coherent}
 use Rattle.other_end.specs.System.{State, tried, matchRows, departRows, joined, left}
 use Rattle.other_end.specs.AsCalled.{Lists, MatchCalled, DepartCalled}
 use Rattle.other_end.proofs.Heads.{Low, frontier-low}
@@ -38,47 +39,6 @@ use Rattle.other_end.proofs.Steps.{does-store}
 use Rattle.other_end.proofs.Sound.{Sound}
 use Rattle.other_end.proofs.Joins.{sound-joined, sound-left}
 
--- the answer of one call beside one that is done
-earlier-done : (r : Rows) → earlier (answerOf r) done ≡ answerOf r
-earlier-done r =
-    go (r .limit) (r .incoherent) (r .bits) (r .range) (r .reader) (r .ahead) (r .payload) (r .«used_up») (r .«would_block») (r .«store_full») (r .«readers_full») (r .«gaps_full») (r .«frags_full») (r .nothing)
-  where
-    rowsBy : (a b c d e f g h i j k l m n : Bool) → Rows
-    rowsBy a b c d e f g h i j k l m n =
-        record {
-          limit = a;
-          incoherent = b;
-          bits = c;
-          range = d;
-          reader = e;
-          ahead = f;
-          payload = g;
-          «used_up» = h;
-          «would_block» = i;
-          «store_full» = j;
-          «readers_full» = k;
-          «gaps_full» = l;
-          «frags_full» = m;
-          nothing = n;
-        }
-
-    go : (a b c d e f g h i j k l m n : Bool) → earlier (answerOf (rowsBy a b c d e f g h i j k l m n)) done ≡ answerOf (rowsBy a b c d e f g h i j k l m n)
-    go true b c d e f g h i j k l m n = refl
-    go false true c d e f g h i j k l m n = refl
-    go false false true d e f g h i j k l m n = refl
-    go false false false true e f g h i j k l m n = refl
-    go false false false false true f g h i j k l m n = refl
-    go false false false false false true g h i j k l m n = refl
-    go false false false false false false true h i j k l m n = refl
-    go false false false false false false false true i j k l m n = refl
-    go false false false false false false false false true j k l m n = refl
-    go false false false false false false false false false true k l m n = refl
-    go false false false false false false false false false false true l m n = refl
-    go false false false false false false false false false false false true m n = refl
-    go false false false false false false false false false false false false true n = refl
-    go false false false false false false false false false false false false false true = refl
-    go false false false false false false false false false false false false false false = refl
-
 -- A CHANGE OF THE LIST to hs, with its frontier stored: refused only where the change itself is
 module _ (f : Flow) (h : Fits f) (hs : List Head) (low : Low (f .last) hs) (fit : fits hs ≡ true) where
   abbrev frontBy : Bool → ℕ → Front
@@ -87,19 +47,8 @@ module _ (f : Flow) (h : Fits f) (hs : List Head) (low : Low (f .last) hs) (fit 
   front-is : frontOf (listForm hs) ≡ record { answer = done; frontier = frontierAt (frontier hs) }
   front-is = ap (λ (x : List Head). frontBy (fits x) (frontier x)) (list-back (f .last) hs (h .last-most) low) ∙ ap (λ (t : Bool). frontBy t (frontier hs)) fit
 
-  abbrev wokenBy : Bool → Answer → Left1 Told WriterSendBuffer → Woken
-  wokenBy t all put = cond {A = Woken} t (record { told = record { answer = done; yes = put .result .yes }; flow = put .first }) (record { told = toldNo all; flow = flowForm f })
-
-  abbrev listBy : List ReaderHead → Answer → Left1 Told WriterSendBuffer → Left1 Woken (List ReaderHead)
-  listBy old all put = record { result = wokenBy (isDone all) all put; first = cond (isDone (wokenBy (isDone all) all put .told .answer)) (listForm hs) old }
-
-  abbrev isPut : Left1 Told WriterSendBuffer
-  isPut = record { result = record { answer = done; yes = wakes (frontier hs) f }; first = flowForm (stored (frontier hs) f) }
-
-  stores : (before : Answer) (old : List ReaderHead) → listStep old (flowForm f) (record { result = before; first = listForm hs }) ≡ listBy old (earlier before done) isPut
-  stores before old =
-      ap (λ (x : Front). listBy old (firstAnswer (before ∷ x .answer ∷ ackedOf (flowForm f) (x .frontier) .result .answer ∷ [])) (ackedOf (flowForm f) (x .frontier))) front-is
-      ∙ ap (λ (p : Left1 Told WriterSendBuffer). listBy old (firstAnswer (before ∷ done ∷ p .result .answer ∷ [])) p) (does-store f h (frontier hs) (frontier-low (f .last) hs low))
+  pub stores : storedOf (frontOf (listForm hs)) (flowForm f) ≡ record { told = record { answer = done; yes = wakes (frontier hs) f }; flow = flowForm (stored (frontier hs) f) }
+  stores = ap (λ (x : Front). storedOf x (flowForm f)) front-is ∙ ap woken (does-store f h (frontier hs) (frontier-low (f .last) hs low))
 
   -- and a lent store that is coherent stays so
   pub store-kept : (store lens : List ℕ) → isCoherentStore (flowForm f) (length store) lens ≡ true → isCoherentStore (flowForm (stored (frontier hs) f)) (length store) lens ≡ true
@@ -109,16 +58,17 @@ module _ (f : Flow) (h : Fits f) (hs : List Head) (low : Low (f .last) hs) (fit 
 
   pub list-done : (old : List ReaderHead)
       → listStep old (flowForm f) (record { result = done; first = listForm hs })
-      ≡ record { result = record { told = record { answer = done; yes = wakes (frontier hs) f }; flow = flowForm (stored (frontier hs) f) }; first = listForm hs }
-  list-done old = stores done old
+      ≡ record { result = record { answer = done; yes = wakes (frontier hs) f }; first = listForm hs; second = flowForm (stored (frontier hs) f) }
+  list-done old =
+      ap (λ (a : Answer). stepLeaves (after a (storedOf (frontOf (listForm hs)) (flowForm f)) (flowForm f)) old (listForm hs)) (with-coherent (rowsOf []) (flowForm f) (flow-coherent f h))
+      ∙ ap (λ (w : Woken). stepLeaves w old (listForm hs)) stores
 
-  pub list-refused : (r : Rows) → isDone (answerOf r) ≡ false → (old : List ReaderHead)
-      → listStep old (flowForm f) (record { result = answerOf r; first = listForm hs }) ≡ record { result = record { told = toldNo (answerOf r); flow = flowForm f }; first = old }
-  list-refused r e old =
-      stores (answerOf r) old
-      ∙ ap (λ (a : Answer). listBy old a isPut) (earlier-done r)
-      ∙ ap (λ (t : Bool). record { result = wokenBy t (answerOf r) isPut; first = cond (isDone (wokenBy t (answerOf r) isPut .told .answer)) (listForm hs) old }) e
-      ∙ ap (λ (t : Bool). record { result = wokenBy false (answerOf r) isPut; first = cond t (listForm hs) old }) e
+-- one that is refused, whatever the list would be
+list-refused : (f : WriterSendBuffer) → isCoherent f ≡ true → (r : Rows) → isDone (answerOf r) ≡ false → (old new : List ReaderHead) → listStep old f (record { result = answerOf r; first = new }) ≡ record { result = toldNo (answerOf r); first = old; second = f }
+list-refused f c r e old new =
+    ap (λ (a : Answer). stepLeaves (after a (storedOf (frontOf new) f) f) old new) (with-coherent r f c)
+    ∙ ap (λ (t : Bool). stepLeaves (cond {A = Woken} t (storedOf (frontOf new) f) (notStored f (answerOf r))) old new) e
+    ∙ ap (λ (t : Bool). record { result = toldNo (answerOf r); first = cond t new old; second = f }) e
 
 module _ (s : State) (h : Sound s) where
   abbrev list : List ReaderHead
@@ -142,17 +92,17 @@ module _ (s : State) (h : Sound s) where
           let low : Low (s .flow .last) (s₁ .heads) = subst (λ (g : Flow). Low (g .last) (s₁ .heads)) ef (n .low) in
           let w = list-done (s .flow) (h .flow) (s₁ .heads) low (n .list) (listForm (s .heads)) in
           record {
-            answer = ap (λ (x : Left1 Woken (List ReaderHead)). x .result .told .answer) w ∙ sym (done-is (answerOf r) (eqb-true (answerOf r .number) 0 e));
-            flow = ap (λ (x : Left1 Woken (List ReaderHead)). x .result .flow) w ∙ ap flowForm (sym ef);
-            list = ap (λ (x : Left1 Woken (List ReaderHead)). x .first) w;
+            answer = ap (λ (x : Left2 Told (List ReaderHead) WriterSendBuffer). x .result .answer) w ∙ sym (done-is (answerOf r) (eqb-true (answerOf r .number) 0 e));
+            flow = ap (λ (x : Left2 Told (List ReaderHead) WriterSendBuffer). x .second) w ∙ ap flowForm (sym ef);
+            list = ap (λ (x : Left2 Told (List ReaderHead) WriterSendBuffer). x .first) w;
             store = λ store lens c. subst (λ (g : Flow). isCoherentStore (flowForm g) (length store) lens ≡ true) (sym ef) (store-kept (s .flow) (h .flow) (s₁ .heads) low (n .list) store lens c);
           }
       go false e =
-          let w = list-refused (s .flow) (h .flow) (s .heads) (h .low) (h .list) r e (listForm (s .heads)) in
+          let w = list-refused (flowForm (s .flow)) (flow-coherent (s .flow) (h .flow)) r e (listForm (s .heads)) (listForm (s .heads)) in
           record {
-            answer = ap (λ (x : Left1 Woken (List ReaderHead)). x .result .told .answer) w;
-            flow = ap (λ (x : Left1 Woken (List ReaderHead)). x .result .flow) w;
-            list = ap (λ (x : Left1 Woken (List ReaderHead)). x .first) w;
+            answer = ap (λ (x : Left2 Told (List ReaderHead) WriterSendBuffer). x .result .answer) w;
+            flow = ap (λ (x : Left2 Told (List ReaderHead) WriterSendBuffer). x .second) w;
+            list = ap (λ (x : Left2 Told (List ReaderHead) WriterSendBuffer). x .first) w;
             store = λ store lens c. c;
           }
 

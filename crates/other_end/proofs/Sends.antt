@@ -1,7 +1,7 @@
 -- The send step, done by the calls on the forms of the system's records. Assumes nothing.
 use Prim.Native.Nat.{ℕ, _≤_}
 use mathlib.Core.Path.{_≡_, refl, sym, ap, subst, _∙_}
-use mathlib.Core.Bool.{Bool, false, not, cond, _||_}
+use mathlib.Core.Bool.{Bool, true, false, not, cond, _||_}
 use mathlib.Core.List.{List, [], _∷_}
 use mathlib.Core.Option.{Option}
 use native.Mathlib.Omega.{arith}
@@ -28,7 +28,7 @@ use Rattle.writer_send_buffer.specs.Buffer.{view, form as flowForm, ranged, noN
 use Rattle.writer_send_buffer.proofs.Sound.{Fits}
 use Rattle.writer_send_buffer.proofs.Steps.{view-form, form-coherent as flow-coherent}
 use Rattle.writer_steps.specs.declared.send.Sent.{Sent}
-use Rattle.writer_steps.specs.Answers.{stepped}
+use Rattle.numbers.specs.Answers.{stepped}
 use Rattle.writer_steps.specs.Send.{firstUnsent, sendOf}
 use Rattle.other_end.specs.System.{Line, sample, gap, State, send, onServer, sendFirst, sendTo, step}
 use Rattle.other_end.specs.AsCalled.{Then, Sends, SendCalled}
@@ -79,7 +79,7 @@ module _ (f : Flow) (h : Fits f) (r : Reader) (v : Valid r) where
   sends-one n ns e q =
       sent-is
       ∙ ap (λ (u : List ℕ). sentBy done (nextBy u) f mark) e
-      ∙ ap (λ (o : Left1 Changed (List ℕ)). record { result = record { answer = done; number = numberAt n; «data» = retained (rankOf (numberAt n)) f; proxy = o .result .proxy }; first = o .first }) (by-unsent-is r v [] (markedSent (rankOf (numberAt n))))
+      ∙ ap (λ (o : Left1 Changed (List ℕ)). record { result = record { answer = done; number = numberAt n; «data» = retained (rankOf (numberAt n)) f; proxy = o .result .proxy }; first = o .first }) (by-unsent-is r v true refl [] (markedSent (rankOf (numberAt n))))
       ∙ ap (λ (k : ℕ). record { result = record { answer = done; number = numberAt n; «data» = retained k f; proxy = proxyOf (markedSent k r) }; first = unsentRoom (markedSent k r) }) (rank-back n (omega arith))
 
 module _ (s : State) (h : Sound s) (i : ℕ) where

@@ -1,6 +1,6 @@
 -- What the calls on one reader's record, and on the flow record, answer and leave on the forms of the system's records: the system's step, its refusals
 -- included. Assumes nothing.
-use Prim.Native.Nat.{ℕ, suc, _+_, _-_, _≤_}
+use Prim.Native.Nat.{ℕ, suc, _+_, _-_, _≤_, min}
 use mathlib.Core.Path.{_≡_, refl, ap, _∙_}
 use mathlib.Core.Bool.{Bool, true, false, not, cond, _&&_, _||_}
 use mathlib.Core.List.{List, [], _∷_}
@@ -8,9 +8,10 @@ use lib.Dec.{ltb, leb}
 use lib.ListN.{length, take}
 use native.Mathlib.Omega.{arith}
 use borrow.Author.Tests.{le-ltb, le-leb}
-use Rattle.sets.proofs.Bools.{and-left, and-right, and-both}
+use Rattle.sets.proofs.Bools.{and-left, and-right, and-both, or-right}
 use Rattle.numbers.specs.Number.{topNumber, rankOf, negative, isSample, inRange, numberAt}
 use Rattle.numbers.specs.Refusals.{Row, row, rowsOf, answerOf, isDone, unless, done}
+use Rattle.numbers.specs.Answers.{earlier, inTurn, answered}
 use Rattle.numbers.specs.Promise.{Left1, Left2}
 use Rattle.numbers.specs.declared.answer.Answer.{Answer}
 use Rattle.numbers.specs.declared.answer.Rows.{Rows}
@@ -18,19 +19,21 @@ use Rattle.numbers.specs.declared.sequence_number.SequenceNumber.{SequenceNumbe
 use Rattle.numbers.proofs.Ranks.{rank-back, range-of}
 use Rattle.number_sets.specs.Bits.{NumberSet, members}
 use Rattle.number_sets.specs.Calls.{fragmentSet}
-use Rattle.rising.proofs.Meaning.{room-take}
+use Rattle.rising.specs.Runs.{roomOf}
+use Rattle.rising.proofs.Meaning.{room-take, room-length}
 use Rattle.requested_fragments.specs.Table.{samplesRoom, wordsRoom}
-use Rattle.requested_fragments.proofs.Both.{rooms-hold}
+use Rattle.requested_fragments.proofs.Both.{rooms-hold, rooms-long}
 use Rattle.rtps_reader_proxy.specs.declared.proxy.Changed.{Changed}
 use Rattle.rtps_reader_proxy.specs.declared.acks.AckNacked.{AckNacked}
 use Rattle.rtps_reader_proxy.specs.Reader.{Reader, acknowledge, leftOut, markedSent, removedBefore, notified, gapInserted, gapUpTo, fragsRequested, fragSent}
-use Rattle.rtps_reader_proxy.specs.Record.{unsentOk, gapsOk, headOf, unsentRoom, gapRoom}
+use Rattle.rtps_reader_proxy.specs.Record.{roomFor, unsentOk, gapsOk, headOf, unsentRoom, gapRoom}
 use Rattle.rtps_reader_proxy.specs.Unsent.{byUnsent, countUnsent, unsentBy, notifiedOf}
 use Rattle.rtps_reader_proxy.specs.Gaps.{byGaps, countGaps, gapsBy, memberRows, endRows}
-use Rattle.rtps_reader_proxy.specs.Fragments.{fragsOk, byFrags, countFrags, fragsBy, requestRows}
-use Rattle.rtps_reader_proxy.specs.Acks.{byBoth, headAfter, ackRowsOf, ackNackedOf}
-use Rattle.reader_record.specs.Whole.{form, Valid}
+use Rattle.rtps_reader_proxy.specs.Fragments.{fragsRequestedOf, fragsOk, byFrags, countFrags, fragsBy, requestRows}
+use Rattle.rtps_reader_proxy.specs.Acks.{byBoth, headAfter, ackFits, ackRowsOf, ackNackedAmong}
+use Rattle.reader_record.specs.Whole.{isWhole, roomsOk, form, Valid}
 use Rattle.reader_record.proofs.Whole.{entries-in, form-coherent}
+use Rattle.reader_list.specs.declared.calls.Found.{Found}
 use Rattle.reader_list.specs.Slots.{frontierAt}
 use Rattle.reader_list.proofs.Smallest.{frontier-back}
 use Rattle.writer_send_buffer.specs.declared.flow.WriterSendBuffer.{WriterSendBuffer}
@@ -39,6 +42,7 @@ use Rattle.writer_send_buffer.specs.Flow.{Flow, ahead, unwritten, stored, wakes
 use Rattle.writer_send_buffer.specs.Buffer.{view, form as flowForm, isCoherent, ranged, toldNo, ackedOf, sentOf, evictOf}
 use Rattle.writer_send_buffer.proofs.Sound.{Fits}
 use Rattle.writer_send_buffer.proofs.Steps.{at-least-0, view-form, form-coherent as flow-coherent}
+use Rattle.writer_steps.specs.Frags.{notAsked}
 use Rattle.other_end.specs.Calls.{Call, gapAt, gapTo, askFrags, sentFrag, markSent, removeBefore, result, callRows}
 use Rattle.other_end.specs.AsCalled.{setForm, Outcome, onUnsent, onGaps, onFrags, calledOn}
 
@@ -69,17 +73,40 @@ seenBoth r = record { acked = r .acked; cap = r .cap; unsent = r .unsent; prefix
 
 module _ (r : Reader) (v : Valid r) where
   abbrev samples : List ℕ
-  samples = samplesRoom (r .frags)
+  samples = samplesRoom 16 (r .frags)
 
   abbrev words : List ℕ
-  words = wordsRoom (r .frags)
+  words = wordsRoom 16 (r .frags)
 
   -- the calls' own tests
+  all-ok : roomsOk (form r) ≡ true
+  all-ok = and-right (isWhole (form r)) (roomsOk (form r)) (form-coherent r v)
+
   pub unsent-ok : unsentOk (headOf r) (unsentRoom r) ≡ true
-  unsent-ok = and-left (unsentOk (headOf r) (unsentRoom r)) _ (form-coherent r v)
+  unsent-ok = and-left (unsentOk (headOf r) (unsentRoom r)) _ all-ok
+
+  -- the rooms are whole
+  unsent-long : length (unsentRoom r) ≡ r .cap
+  unsent-long = room-length (r .cap) (r .unsent) (v .unsent-few)
+
+  gaps-long : length (gapRoom r) ≡ 256
+  gaps-long = room-length 256 (r .gaps) (v .gaps-few)
+
+  -- so there is room in them for whatever joins
+  pub fits-unsent : (k : ℕ) → roomFor k (r .cap) (length (r .unsent)) (unsentRoom r) ≡ true
+  fits-unsent k = or-right (leb k (length (unsentRoom r) - length (r .unsent))) (leb (r .cap) (length (unsentRoom r))) (le-leb (r .cap) (length (unsentRoom r)) (omega (arith, unsent-long)))
+
+  samples-long : length samples ≡ 16
+  samples-long = rooms-long 16 (r .frags) (v .frags-few)
+
+  fits-gaps : (k : ℕ) → roomFor k 256 (length (r .gaps)) (gapRoom r) ≡ true
+  fits-gaps k = or-right (leb k (length (gapRoom r) - length (r .gaps))) (leb 256 (length (gapRoom r))) (le-leb 256 (length (gapRoom r)) (omega (arith, gaps-long)))
+
+  fits-frags : (k : ℕ) → roomFor k 16 (length (r .frags)) samples ≡ true
+  fits-frags k = or-right (leb k (length samples - length (r .frags))) (leb 16 (length samples)) (le-leb 16 (length samples) (omega (arith, samples-long)))
 
   rest-ok : (gapsOk (headOf r) (gapRoom r) && fragsOk (headOf r) samples words) ≡ true
-  rest-ok = and-right (unsentOk (headOf r) (unsentRoom r)) (gapsOk (headOf r) (gapRoom r) && fragsOk (headOf r) samples words) (form-coherent r v)
+  rest-ok = and-right (unsentOk (headOf r) (unsentRoom r)) (gapsOk (headOf r) (gapRoom r) && fragsOk (headOf r) samples words) all-ok
 
   pub gaps-ok : gapsOk (headOf r) (gapRoom r) ≡ true
   gaps-ok = and-left (gapsOk (headOf r) (gapRoom r)) _ rest-ok
@@ -101,54 +128,63 @@ module _ (r : Reader) (v : Valid r) where
 
   by-frags : byFrags (headOf r) samples words ≡ seenFrags r
   by-frags = λ i.
-      record { acked = acked-is i; cap = r .cap; unsent = take (length (r .unsent)) []; prefix = prefix-is i; gaps = take (length (r .gaps)) []; frags = rooms-hold (r .frags) (entries-in r v) i }
+      record { acked = acked-is i; cap = r .cap; unsent = take (length (r .unsent)) []; prefix = prefix-is i; gaps = take (length (r .gaps)) []; frags = rooms-hold 16 (r .frags) (entries-in r v) (v .frags-few) i }
 
   by-both : byBoth (headOf r) (unsentRoom r) (gapRoom r) ≡ seenBoth r
   by-both = λ i. record { acked = acked-is i; cap = r .cap; unsent = room-take (r .cap) (r .unsent) i; prefix = prefix-is i; gaps = room-take 256 (r .gaps) i; frags = [] }
 
   -- THE UNSENT NUMBERS
 
-  abbrev unsentOut : Bool → List Row → (Reader → Reader) → Reader → Left1 Changed (List ℕ)
-  unsentOut t rows f x =
+  abbrev unsentOut : ℕ → Bool → List Row → (Reader → Reader) → Reader → Left1 Changed (List ℕ)
+  unsentOut m t rows f x =
       unless (rowsOf (row 1 t ∷ rows))
       (λ a. record { result = record { answer = a; proxy = headOf r }; first = unsentRoom r })
-      (record { result = record { answer = done; proxy = countUnsent (length (f x .unsent)) (headOf r) }; first = unsentRoom (f x) })
+      (record { result = record { answer = done; proxy = countUnsent (length (f x .unsent)) (headOf r) }; first = roomOf m (f x .unsent) })
 
-  pub by-unsent-is : (rows : List Row) (f : Reader → Reader) → unsentBy rows f (headOf r) (unsentRoom r) ≡ unsentOut false rows f (seenUnsent r)
-  by-unsent-is rows f = ap (λ (x : Reader). unsentOut (not (unsentOk (headOf r) (unsentRoom r))) rows f x) by-unsent ∙ ap (λ (t : Bool). unsentOut (not t) rows f (seenUnsent r)) unsent-ok
+  pub by-unsent-is : (fits : Bool) → fits ≡ true → (rows : List Row) (f : Reader → Reader) → unsentBy fits rows f (headOf r) (unsentRoom r) ≡ unsentOut (r .cap) false rows f (seenUnsent r)
+  by-unsent-is fits ef rows f =
+      ap (λ (x : Reader). unsentOut (length (unsentRoom r)) (not (fits && unsentOk (headOf r) (unsentRoom r))) rows f x) by-unsent
+      ∙ ap (λ (t : Bool). unsentOut (length (unsentRoom r)) (not t) rows f (seenUnsent r)) (and-both fits (unsentOk (headOf r) (unsentRoom r)) ef unsent-ok)
+      ∙ ap (λ (m : ℕ). unsentOut m false rows f (seenUnsent r)) unsent-long
 
   -- a new sample's number is never out of range: a write is refused with 5 before
   pub does-notify : (n : ℕ) → 1 ≤ n → n ≤ topNumber
       → notifiedOf (numberAt n) (headOf r) (unsentRoom r) ≡ record { result = record { answer = done; proxy = headOf (notified n r) }; first = unsentRoom (notified n r) }
   does-notify n p q =
-      by-unsent-is (row 2 (not (isSample (numberAt n))) ∷ []) (notified (rankOf (numberAt n)))
-      ∙ ap (λ (k : ℕ). unsentOut false (row 2 (not (leb 1 k && leb k topNumber)) ∷ []) (notified k) (seenUnsent r)) (rank-back n (omega arith))
-      ∙ ap (λ (t : Bool). unsentOut false (row 2 (not (t && leb n topNumber)) ∷ []) (notified n) (seenUnsent r)) (le-leb 1 n p)
-      ∙ ap (λ (t : Bool). unsentOut false (row 2 (not t) ∷ []) (notified n) (seenUnsent r)) (le-leb n topNumber q)
+      by-unsent-is (roomFor 1 (r .cap) (length (r .unsent)) (unsentRoom r)) (fits-unsent 1) (row 2 (not (isSample (numberAt n))) ∷ []) (notified (rankOf (numberAt n)))
+      ∙ ap (λ (k : ℕ). unsentOut (r .cap) false (row 2 (not (leb 1 k && leb k topNumber)) ∷ []) (notified k) (seenUnsent r)) (rank-back n (omega arith))
+      ∙ ap (λ (t : Bool). unsentOut (r .cap) false (row 2 (not (t && leb n topNumber)) ∷ []) (notified n) (seenUnsent r)) (le-leb 1 n p)
+      ∙ ap (λ (t : Bool). unsentOut (r .cap) false (row 2 (not t) ∷ []) (notified n) (seenUnsent r)) (le-leb n topNumber q)
 
   -- THE PENDING GAP
 
-  abbrev gapsOut : Bool → List Row → (Reader → Reader) → Reader → Left1 Changed (List ℕ)
-  gapsOut t rows f x =
+  abbrev gapsOut : ℕ → Bool → List Row → (Reader → Reader) → Reader → Left1 Changed (List ℕ)
+  gapsOut m t rows f x =
       unless (rowsOf (row 1 t ∷ rows))
       (λ a. record { result = record { answer = a; proxy = headOf r }; first = gapRoom r })
-      (record { result = record { answer = done; proxy = countGaps (f x .prefix) (length (f x .gaps)) (headOf r) }; first = gapRoom (f x) })
+      (record { result = record { answer = done; proxy = countGaps (f x .prefix) (length (f x .gaps)) (headOf r) }; first = roomOf m (f x .gaps) })
 
-  by-gaps-is : (rows : Reader → List Row) (f : Reader → Reader) → gapsBy (rows (byGaps (headOf r) (gapRoom r))) f (headOf r) (gapRoom r) ≡ gapsOut false (rows (seenGaps r)) f (seenGaps r)
-  by-gaps-is rows f =
-      ap (λ (x : Reader). gapsOut (not (gapsOk (headOf r) (gapRoom r))) (rows x) f x) by-gaps ∙ ap (λ (t : Bool). gapsOut (not t) (rows (seenGaps r)) f (seenGaps r)) gaps-ok
+  by-gaps-is : (fits : Bool) → fits ≡ true → (rows : Reader → List Row) (f : Reader → Reader)
+      → gapsBy fits (rows (byGaps (headOf r) (gapRoom r))) f (headOf r) (gapRoom r) ≡ gapsOut 256 false (rows (seenGaps r)) f (seenGaps r)
+  by-gaps-is fits ef rows f =
+      ap (λ (x : Reader). gapsOut (length (gapRoom r)) (not (fits && gapsOk (headOf r) (gapRoom r))) (rows x) f x) by-gaps
+      ∙ ap (λ (t : Bool). gapsOut (length (gapRoom r)) (not t) (rows (seenGaps r)) f (seenGaps r)) (and-both fits (gapsOk (headOf r) (gapRoom r)) ef gaps-ok)
+      ∙ ap (λ (m : ℕ). gapsOut m false (rows (seenGaps r)) f (seenGaps r)) gaps-long
 
   -- REQUESTED FRAGMENTS
 
-  abbrev fragsOut : Bool → List Row → (Reader → Reader) → Reader → Left2 Changed (List ℕ) (List ℕ)
-  fragsOut t rows f x =
+  abbrev fragsOut : ℕ → Bool → List Row → (Reader → Reader) → Reader → Left2 Changed (List ℕ) (List ℕ)
+  fragsOut m t rows f x =
       unless (rowsOf (row 1 t ∷ rows))
       (λ a. record { result = record { answer = a; proxy = headOf r }; first = samples; second = words })
-      (record { result = record { answer = done; proxy = countFrags (length (f x .frags)) (headOf r) }; first = samplesRoom (f x .frags); second = wordsRoom (f x .frags) })
+      (record { result = record { answer = done; proxy = countFrags (length (f x .frags)) (headOf r) }; first = samplesRoom m (f x .frags); second = wordsRoom m (f x .frags) })
 
-  by-frags-is : (rows : Reader → List Row) (f : Reader → Reader) → fragsBy (rows (byFrags (headOf r) samples words)) f (headOf r) samples words ≡ fragsOut false (rows (seenFrags r)) f (seenFrags r)
-  by-frags-is rows f =
-      ap (λ (x : Reader). fragsOut (not (fragsOk (headOf r) samples words)) (rows x) f x) by-frags ∙ ap (λ (t : Bool). fragsOut (not t) (rows (seenFrags r)) f (seenFrags r)) frags-ok
+  by-frags-is : (fits : Bool) → fits ≡ true → (rows : Reader → List Row) (f : Reader → Reader)
+      → fragsBy fits (rows (byFrags (headOf r) samples words)) f (headOf r) samples words ≡ fragsOut 16 false (rows (seenFrags r)) f (seenFrags r)
+  by-frags-is fits ef rows f =
+      ap (λ (x : Reader). fragsOut (length samples) (not (fits && fragsOk (headOf r) samples words)) (rows x) f x) by-frags
+      ∙ ap (λ (t : Bool). fragsOut (length samples) (not t) (rows (seenFrags r)) f (seenFrags r)) (and-both fits (fragsOk (headOf r) samples words) ef frags-ok)
+      ∙ ap (λ (m : ℕ). fragsOut m false (rows (seenFrags r)) f (seenFrags r)) samples-long
 
   -- EVERY ONE OF THESE CALLS, where `last` is the last number written
   module _ (last : ℕ) (top : last ≤ topNumber) where
@@ -159,40 +195,41 @@ module _ (r : Reader) (v : Valid r) where
     last-is : rankOf (numberAt last) ≡ last
     last-is = rank-back last (omega (arith, top))
 
-    pub does-call : (c : Call) → calledOn c (numberAt last) (form r) ≡ leaves (callRows last c r) r (result c r)
-    does-call (gapAt n) =
+    pub does-call : (d : Found) → d .answer ≡ done → (c : Call) → calledOn d c (numberAt last) (form r) ≡ leaves (callRows last c r) r (result c r)
+    does-call d there (gapAt n) =
         let f = gapInserted (rankOf n) in
-        ap (onGaps (form r)) (by-gaps-is (λ x. memberRows (not (inRange (numberAt last) topNumber)) (rankOf (numberAt last)) (rankOf n) (length (r .gaps)) x) f
-        ∙ ap (λ (t : Bool). gapsOut false (memberRows (not t) (rankOf (numberAt last)) (rankOf n) (length (r .gaps)) (seenGaps r)) f (seenGaps r)) within
-        ∙ ap (λ (k : ℕ). gapsOut false (memberRows false k (rankOf n) (length (r .gaps)) (seenGaps r)) f (seenGaps r)) last-is)
+        ap (onGaps (form r)) (by-gaps-is (roomFor 1 256 (length (r .gaps)) (gapRoom r)) (fits-gaps 1) (λ x. memberRows (not (inRange (numberAt last) topNumber)) (rankOf (numberAt last)) (rankOf n) (length (r .gaps)) x) f
+        ∙ ap (λ (t : Bool). gapsOut 256 false (memberRows (not t) (rankOf (numberAt last)) (rankOf n) (length (r .gaps)) (seenGaps r)) f (seenGaps r)) within
+        ∙ ap (λ (k : ℕ). gapsOut 256 false (memberRows false k (rankOf n) (length (r .gaps)) (seenGaps r)) f (seenGaps r)) last-is)
         ∙ unless-map (onGaps (form r)) (callRows last (gapAt n) r) (λ a. record { result = record { answer = a; proxy = headOf r }; first = gapRoom r }) _
-    does-call (gapTo e) =
+    does-call d there (gapTo e) =
         let f = gapUpTo (rankOf e) in
-        ap (onGaps (form r)) (by-gaps-is (λ x. endRows (not (inRange (numberAt last) topNumber)) (rankOf (numberAt last)) (negative e) (rankOf e)) f
-        ∙ ap (λ (t : Bool). gapsOut false (endRows (not t) (rankOf (numberAt last)) (negative e) (rankOf e)) f (seenGaps r)) within
-        ∙ ap (λ (k : ℕ). gapsOut false (endRows false k (negative e) (rankOf e)) f (seenGaps r)) last-is)
+        ap (onGaps (form r)) (by-gaps-is true refl (λ x. endRows (not (inRange (numberAt last) topNumber)) (rankOf (numberAt last)) (negative e) (rankOf e)) f
+        ∙ ap (λ (t : Bool). gapsOut 256 false (endRows (not t) (rankOf (numberAt last)) (negative e) (rankOf e)) f (seenGaps r)) within
+        ∙ ap (λ (k : ℕ). gapsOut 256 false (endRows false k (negative e) (rankOf e)) f (seenGaps r)) last-is)
         ∙ unless-map (onGaps (form r)) (callRows last (gapTo e) r) (λ a. record { result = record { answer = a; proxy = headOf r }; first = gapRoom r }) _
-    does-call (askFrags n z) =
-        ap (onFrags (form r)) (by-frags-is (λ x. requestRows (rankOf n) (fragmentSet z) (length (r .frags)) x) (fragsRequested (rankOf n) (members (fragmentSet z))))
+    does-call d there (askFrags n z) =
+        ap (λ (a : Answer). onFrags (form r) (answered a (notAsked n z (headOf r) samples words) (fragsRequestedOf n z (headOf r) samples words))) there
+        ∙ ap (onFrags (form r)) (by-frags-is (roomFor 1 16 (length (r .frags)) samples) (fits-frags 1) (λ x. requestRows (rankOf n) (fragmentSet z) (length (r .frags)) x) (fragsRequested (rankOf n) (members (fragmentSet z))))
         ∙ unless-map (onFrags (form r)) (callRows last (askFrags n z) r) (λ a. record { result = record { answer = a; proxy = headOf r }; first = samples; second = words }) _
-    does-call (sentFrag n f) = ap (onFrags (form r)) (by-frags-is (λ x. []) (fragSent (rankOf n) (f .0)))
-    does-call (markSent n) = ap (onUnsent (form r)) (by-unsent-is [] (markedSent (rankOf n)))
-    does-call (removeBefore n) = ap (onUnsent (form r)) (by-unsent-is [] (removedBefore (rankOf n)))
+    does-call d there (sentFrag n f) = ap (onFrags (form r)) (by-frags-is true refl (λ x. []) (fragSent (rankOf n) (f .0)))
+    does-call d there (markSent n) = ap (onUnsent (form r)) (by-unsent-is true refl [] (markedSent (rankOf n)))
+    does-call d there (removeBefore n) = ap (onUnsent (form r)) (by-unsent-is true refl [] (removedBefore (rankOf n)))
 
     -- AN ACKNOWLEDGEMENT
-    abbrev ackOut : Bool → Bool → ℕ → NumberSet → Reader → Left2 AckNacked (List ℕ) (List ℕ)
-    ackOut ok out k z x =
-        unless (ackRowsOf ok z out false k)
+    abbrev ackOut : Answer → Answer → ℕ → ℕ → Bool → Bool → ℕ → NumberSet → Reader → Left2 AckNacked (List ℕ) (List ℕ)
+    ackOut beside after m n ok out k z x =
+        answered (inTurn (earlier (answerOf (ackRowsOf ok z out false k)) beside) after)
         (λ a. record { result = record { answer = a; «left_out» = 0; proxy = headOf r }; first = unsentRoom r; second = gapRoom r })
         (record {
           result = record { answer = done; «left_out» = leftOut k (z .base) (members z) x; proxy = headAfter (acknowledge k (z .base) (members z) x) (headOf r) };
-          first = unsentRoom (acknowledge k (z .base) (members z) x);
-          second = gapRoom (acknowledge k (z .base) (members z) x);
+          first = roomOf m (acknowledge k (z .base) (members z) x .unsent);
+          second = roomOf n (acknowledge k (z .base) (members z) x .gaps);
         })
 
-    abbrev pub acksOf : NumberSet → Left2 AckNacked (List ℕ) (List ℕ)
-    acksOf z =
-        unless (ackRowsOf true z false false last)
+    abbrev pub acksOf : Answer → Answer → NumberSet → Left2 AckNacked (List ℕ) (List ℕ)
+    acksOf beside after z =
+        answered (inTurn (earlier (answerOf (ackRowsOf true z false false last)) beside) after)
         (λ a. record { result = record { answer = a; «left_out» = 0; proxy = headOf r }; first = unsentRoom r; second = gapRoom r })
         (record {
           result = record { answer = done; «left_out» = leftOut last (z .base) (members z) r; proxy = headOf (acknowledge last (z .base) (members z) r) };
@@ -200,15 +237,21 @@ module _ (r : Reader) (v : Valid r) where
           second = gapRoom (acknowledge last (z .base) (members z) r);
         })
 
-    pub does-ack : (z : NumberSet) → z .base ≤ suc last → ackNackedOf (setForm z) (numberAt last) (headOf r) (unsentRoom r) (gapRoom r) ≡ acksOf z
-    does-ack z q =
-        let ok = and-both (unsentOk (headOf r) (unsentRoom r)) (gapsOk (headOf r) (gapRoom r)) unsent-ok gaps-ok in
+    pub does-ack : (beside after : Answer) (z : NumberSet) → z .base ≤ suc last → ackNackedAmong beside after (setForm z) (numberAt last) (headOf r) (unsentRoom r) (gapRoom r) ≡ acksOf beside after z
+    does-ack beside after z q =
+        let fits = roomFor (min (z .count) 256) (r .cap) (length (r .unsent)) (unsentRoom r) in
+        let ok =
+        and-both fits (unsentOk (headOf r) (unsentRoom r) && gapsOk (headOf r) (gapRoom r)) (fits-unsent (min (z .count) 256))
+        (and-both (unsentOk (headOf r) (unsentRoom r)) (gapsOk (headOf r) (gapRoom r)) unsent-ok gaps-ok) in
+        let out = ackOut beside after (length (unsentRoom r)) (length (gapRoom r)) in
         let no : (negative (numberAt (z .base)) || not (inRange (numberAt last) topNumber)) ≡ false = ap (λ (t : Bool). t || not (inRange (numberAt last) topNumber)) (at-least-0 (z .base)) ∙ ap not within in
-        ap (λ (b : ℕ). ackOut (unsentOk (headOf r) (unsentRoom r) && gapsOk (headOf r) (gapRoom r)) (negative (numberAt (z .base)) || not (inRange (numberAt last) topNumber)) (rankOf (numberAt last)) (record { base = b; count = z .count; words = z .words }) (byBoth (headOf r) (unsentRoom r) (gapRoom r))) (rank-back (z .base) (omega (arith, top)))
-        ∙ ap (λ (x : Reader). ackOut (unsentOk (headOf r) (unsentRoom r) && gapsOk (headOf r) (gapRoom r)) (negative (numberAt (z .base)) || not (inRange (numberAt last) topNumber)) (rankOf (numberAt last)) z x) by-both
-        ∙ ap (λ (k : ℕ). ackOut (unsentOk (headOf r) (unsentRoom r) && gapsOk (headOf r) (gapRoom r)) (negative (numberAt (z .base)) || not (inRange (numberAt last) topNumber)) k z (seenBoth r)) last-is
-        ∙ ap (λ (t : Bool). ackOut t (negative (numberAt (z .base)) || not (inRange (numberAt last) topNumber)) last z (seenBoth r)) ok
-        ∙ ap (λ (t : Bool). ackOut true t last z (seenBoth r)) no
+        ap (λ (b : ℕ). out (fits && (unsentOk (headOf r) (unsentRoom r) && gapsOk (headOf r) (gapRoom r))) (negative (numberAt (z .base)) || not (inRange (numberAt last) topNumber)) (rankOf (numberAt last)) (record { base = b; count = z .count; words = z .words }) (byBoth (headOf r) (unsentRoom r) (gapRoom r))) (rank-back (z .base) (omega (arith, top)))
+        ∙ ap (λ (x : Reader). out (fits && (unsentOk (headOf r) (unsentRoom r) && gapsOk (headOf r) (gapRoom r))) (negative (numberAt (z .base)) || not (inRange (numberAt last) topNumber)) (rankOf (numberAt last)) z x) by-both
+        ∙ ap (λ (k : ℕ). out (fits && (unsentOk (headOf r) (unsentRoom r) && gapsOk (headOf r) (gapRoom r))) (negative (numberAt (z .base)) || not (inRange (numberAt last) topNumber)) k z (seenBoth r)) last-is
+        ∙ ap (λ (t : Bool). out t (negative (numberAt (z .base)) || not (inRange (numberAt last) topNumber)) last z (seenBoth r)) ok
+        ∙ ap (λ (t : Bool). out true t last z (seenBoth r)) no
+        ∙ ap (λ (m : ℕ). ackOut beside after m (length (gapRoom r)) true false last z (seenBoth r)) unsent-long
+        ∙ ap (λ (n : ℕ). ackOut beside after (r .cap) n true false last z (seenBoth r)) gaps-long
 
 -- THE FLOW RECORD
 

@@ -10,31 +10,37 @@ use lib.ListN.{length, replicate}
 use Rattle.sets.specs.Sets.{empty}
 use Rattle.numbers.specs.Number.{rankOf, numberAt}
 use Rattle.numbers.specs.Refusals.{row, rowsOf, answerOf, done, isDone}
-use Rattle.numbers.specs.Promise.{Left1, Left2, Left3}
+use Rattle.numbers.specs.Promise.{Left1, Left2, Left4}
 use Rattle.numbers.specs.declared.answer.Answer.{Answer}
 use Rattle.numbers.specs.declared.sequence_number.SequenceNumber.{SequenceNumber}
 use Rattle.number_sets.specs.declared.sequence_number_set.SequenceNumberSet.{SequenceNumberSet}
 use Rattle.number_sets.specs.Bits.{NumberSet}
+use Rattle.rtps_reader_proxy.specs.declared.proxy.ReaderProxy.{ReaderProxy}
 use Rattle.rtps_reader_proxy.specs.declared.proxy.Changed.{Changed}
 use Rattle.rtps_reader_proxy.specs.Reader.{Reader}
 use Rattle.rtps_reader_proxy.specs.Record.{headOf as proxyOf, unsentRoom, gapRoom}
 use Rattle.rtps_reader_proxy.specs.Unsent.{newOf, markedSentOf, removedBeforeOf}
 use Rattle.rtps_reader_proxy.specs.Gaps.{gapInsertedOf, gapUpToOf}
-use Rattle.rtps_reader_proxy.specs.Fragments.{fragsRequestedOf, fragSentOf}
+use Rattle.rtps_reader_proxy.specs.Fragments.{fragSentOf}
 use Rattle.reader_record.specs.Whole.{Picture, form, Valid}
 use Rattle.reader_list.specs.declared.heads.ReaderHead.{ReaderHead}
-use Rattle.reader_list.specs.Slots.{listForm, freeSlot}
+use Rattle.reader_list.specs.declared.calls.Found.{Found}
+use Rattle.reader_list.specs.Slots.{listForm, freeSlot, foundOf}
 use Rattle.writer_send_buffer.specs.declared.limits.Kind.{Kind}
 use Rattle.writer_send_buffer.specs.declared.limits.Limits.{Limits}
-use Rattle.writer_send_buffer.specs.declared.frontiers.Woken.{Woken}
+use Rattle.writer_send_buffer.specs.declared.flow.Told.{Told}
+use Rattle.writer_send_buffer.specs.declared.flow.WriterSendBuffer.{WriterSendBuffer}
 use Rattle.writer_send_buffer.specs.Buffer.{form as flowForm, newOf as newWriterOf, lastOf, sentOf, evictOf}
 use Rattle.writer_send_buffer.specs.Samples.{isCoherentStore}
-use Rattle.writer_steps.specs.declared.acks.AckStep.{AckStep}
+use Rattle.writer_steps.specs.declared.acks.AckTold.{AckTold}
 use Rattle.writer_steps.specs.declared.send.Sent.{Sent}
 use Rattle.writer_steps.specs.Readers.{matchStep, departStep}
 use Rattle.writer_steps.specs.Acks.{ackStep}
+use Rattle.writer_steps.specs.Frags.{nackFragOf}
 use Rattle.writer_steps.specs.Send.{sendOf}
-use Rattle.writer_steps.specs.Write.{Kept, Written, writeStep}
+use Rattle.writer_write.specs.Write.{Kept}
+use Rattle.writer_write.specs.InPlace.{LeftByWrite, writeOf}
+use Rattle.writer_write.specs.Standing.{keptOf, standing, roomy}
 use Rattle.other_end.specs.Calls.{Call, gapAt, gapTo, askFrags, sentFrag, markSent, removeBefore, callRows}
 use Rattle.other_end.specs.System.{Line, Body, sample, gap, beat, ack, Msg, State, Event, match, depart, write, sentTo, evictTo, call, heartbeat, send, reply, deliver, find, nth, matchRows, departRows, newcomer, ackRows, writeRows, sentRows, evictRows, arrive, step, start}
 
@@ -53,9 +59,9 @@ abbrev pub StoreStays : State → State → Type 0
 StoreStays s s′ = (store lens : List ℕ) → isCoherentStore (flowForm (s .flow)) (length store) lens ≡ true → isCoherentStore (flowForm (s′ .flow)) (length store) lens ≡ true
 
 -- A MATCH AND A DEPARTURE: the answer, the flow record with the frontier stored, and the list
-pub record Lists (o : Left1 Woken (List ReaderHead)) (a : Answer) (s s′ : State) : Type 0 where
-  pub answer : o .result .told .answer ≡ a
-  pub flow : o .result .flow ≡ flowForm (s′ .flow)
+pub record Lists (o : Left2 Told (List ReaderHead) WriterSendBuffer) (a : Answer) (s s′ : State) : Type 0 where
+  pub answer : o .result .answer ≡ a
+  pub flow : o .second ≡ flowForm (s′ .flow)
   pub list : o .first ≡ listForm (s′ .heads)
   pub store : StoreStays s s′
 
@@ -69,20 +75,20 @@ abbrev pub DepartCalled : ℕ → State → Type 0
 DepartCalled i s = Lists (departStep (listForm (s .heads)) (flowForm (s .flow)) i) (answerOf (departRows i s)) s (step (depart i) s)
 
 -- AN ACKNACK: besides, the reader's head, its unsent numbers and its gaps; its fragments aren't lent
-pub record Acks (o : Left3 AckStep (List ReaderHead) (List ℕ) (List ℕ)) (a : Answer) (s s′ : State) (r′ : Reader) : Type 0 where
-  pub answer : o .result .woken .told .answer ≡ a
-  pub flow : o .result .woken .flow ≡ flowForm (s′ .flow)
+pub record Acks (o : Left4 AckTold (List ReaderHead) WriterSendBuffer (List ℕ) (List ℕ)) (a : Answer) (s s′ : State) (r′ : Reader) : Type 0 where
+  pub answer : o .result .told .answer ≡ a
+  pub flow : o .second ≡ flowForm (s′ .flow)
   pub list : o .first ≡ listForm (s′ .heads)
   pub head : o .result .proxy ≡ proxyOf r′
-  pub unsent : o .second ≡ unsentRoom r′
-  pub gaps : o .third ≡ gapRoom r′
+  pub unsent : o .third ≡ unsentRoom r′
+  pub gaps : o .fourth ≡ gapRoom r′
   pub store : StoreStays s s′
 
 -- the set as the call takes it
 abbrev pub setForm : NumberSet → SequenceNumberSet
 setForm z = record { base = numberAt (z .base); count = z .count; words = z .words }
 
-abbrev pub ackOn : ℕ → NumberSet → State → Reader → Left3 AckStep (List ReaderHead) (List ℕ) (List ℕ)
+abbrev pub ackOn : ℕ → NumberSet → State → Reader → Left4 AckTold (List ReaderHead) WriterSendBuffer (List ℕ) (List ℕ)
 ackOn i z s r = ackStep (listForm (s .heads)) (flowForm (s .flow)) i (setForm z) (proxyOf r) (unsentRoom r) (gapRoom r)
 
 -- from a reader that is there; and from one that isn't, whatever record is lent: nothing changes
@@ -101,22 +107,24 @@ abbrev pub Delivers : Option Msg → State → Type 0
 Delivers none s = Unit {0}
 Delivers (some m) s = Arrives (m .line) (m .body) s
 
--- A WRITE, with any coherent store that is lent: the answer, the flow record, the number given, each reader's head and unsent numbers, and a store that is
--- coherent again
+-- A WRITE, with any coherent store that is lent, and with the lines' records side by side, free places among them as one likes: the answer, the flow record,
+-- the number given, each reader's head and unsent numbers, again side by side with room for them, and a store that is coherent again
 abbrev pub keptForm : Line → Kept
-keptForm l = record { proxy = proxyOf (l .server); unsent = unsentRoom (l .server) }
+keptForm l = keptOf (l .server)
 
-pub record Writes (o : Written) (a : Answer) (s′ : State) : Type 0 where
-  pub answer : o .writer .result .answer ≡ a
-  pub flow : o .writer .first ≡ flowForm (s′ .flow)
-  pub number : isDone a ≡ true → o .writer .result .number ≡ numberAt (s′ .flow .last)
-  pub readers : o .readers ≡ map keptForm (s′ .lines)
-  pub store : isCoherentStore (o .writer .first) (length (o .writer .second)) (o .writer .third) ≡ true
+pub record Writes (o : LeftByWrite) (a : Answer) (s′ : State) : Type 0 where
+  pub answer : o .result .answer ≡ a
+  pub flow : o .flow ≡ flowForm (s′ .flow)
+  pub number : isDone a ≡ true → o .result .number ≡ numberAt (s′ .flow .last)
+  pub readers : standing (o .proxies) (o .unsent) ≡ map keptForm (s′ .lines)
+  pub room : roomy (o .proxies) (o .unsent) ≡ true
+  pub store : isCoherentStore (o .flow) (length (o .store)) (o .lens) ≡ true
 
 abbrev pub WriteCalled : ℕ → Bool → State → Type 0
 WriteCalled len opted s =
-    (store lens payload : List ℕ) → length payload ≡ len → isCoherentStore (flowForm (s .flow)) (length store) lens ≡ true
-    → Writes (writeStep (flowForm (s .flow)) store lens payload opted (map keptForm (s .lines))) (answerOf (writeRows len opted s)) (step (write len opted) s)
+    (store lens payload : List ℕ) (hs : List ReaderProxy) (u : List ℕ) → length payload ≡ len → isCoherentStore (flowForm (s .flow)) (length store) lens ≡ true
+    → standing hs u ≡ map keptForm (s .lines) → roomy hs u ≡ true
+    → Writes (writeOf (flowForm (s .flow)) store lens payload opted hs u) (answerOf (writeRows len opted s)) (step (write len opted) s)
 
 -- THE FRONTIERS AND EVICTION
 abbrev pub SentCalled : SequenceNumber → State → Type 0
@@ -141,18 +149,19 @@ onGaps p o = record { answer = o .result .answer; left = record { head = o .resu
 abbrev pub onFrags : Picture → Left2 Changed (List ℕ) (List ℕ) → Outcome
 onFrags p o = record { answer = o .result .answer; left = record { head = o .result .proxy; unsent = p .unsent; gaps = p .gaps; samples = o .first; words = o .second } }
 
-abbrev pub calledOn : Call → SequenceNumber → Picture → Outcome
-calledOn (gapAt n) last p = onGaps p (gapInsertedOf n last (p .head) (p .gaps))
-calledOn (gapTo e) last p = onGaps p (gapUpToOf e last (p .head) (p .gaps))
-calledOn (askFrags n z) last p = onFrags p (fragsRequestedOf n z (p .head) (p .samples) (p .words))
-calledOn (sentFrag n f) last p = onFrags p (fragSentOf n f (p .head) (p .samples) (p .words))
-calledOn (markSent n) last p = onUnsent p (markedSentOf n (p .head) (p .unsent))
-calledOn (removeBefore n) last p = onUnsent p (removedBeforeOf n (p .head) (p .unsent))
+-- `found`: what the list was answered of the reader, for the step that takes its id
+abbrev pub calledOn : Found → Call → SequenceNumber → Picture → Outcome
+calledOn found (gapAt n) last p = onGaps p (gapInsertedOf n last (p .head) (p .gaps))
+calledOn found (gapTo e) last p = onGaps p (gapUpToOf e last (p .head) (p .gaps))
+calledOn found (askFrags n z) last p = onFrags p (nackFragOf found n z (p .head) (p .samples) (p .words))
+calledOn found (sentFrag n f) last p = onFrags p (fragSentOf n f (p .head) (p .samples) (p .words))
+calledOn found (markSent n) last p = onUnsent p (markedSentOf n (p .head) (p .unsent))
+calledOn found (removeBefore n) last p = onUnsent p (removedBeforeOf n (p .head) (p .unsent))
 
 abbrev pub CallCalled : ℕ → Call → State → Type 0
 CallCalled i c s =
     (l : Line) → find i (s .lines) ≡ some l
-    → Then i (step (call i c) s) (λ l′. calledOn c (flowForm (s .flow) .last) (form (l .server)) ≡ record { answer = answerOf (callRows (s .flow .last) c (l .server)); left = form (l′ .server) })
+    → Then i (step (call i c) s) (λ l′. calledOn (foundOf (listForm (s .heads)) i) c (flowForm (s .flow) .last) (form (l .server)) ≡ record { answer = answerOf (callRows (s .flow .last) c (l .server)); left = form (l′ .server) })
 
 -- THE SEND STEP: 14 where nothing is unsent; else a message goes out, with the number sent as data or as a gap
 pub record Sends (o : Left1 Sent (List ℕ)) (i : ℕ) (r r′ : Reader) (s s′ : State) : Type 0 where

@@ -1,19 +1,11 @@
 -- The crate's records as the laws of `lent` take them. Assumes nothing.
 use denote.Struct.Laws as LL
-use mathlib.Core.Path.{ap, subst, _∙_}
-use mathlib.Core.List.{[], _∷_}
-use mir.Val.{Val, vstruct, vcons, vnil}
-use denote.Shadow.{shadow}
-use Rattle.lent.proofs.Plain.{Cell, declared, array, Moved, pairOf, field-val, field-ok, ok-field}
+use Rattle.lent.proofs.Plain.{Cell, declared}
 use Rattle.lent.proofs.Walk1.{Placed}
 use Rattle.numbers.proofs.answer.Answer as Answer′
 use Rattle.numbers.proofs.answer.Answer.Laws as Answer″
 use Rattle.reader_list.proofs.heads.ReaderHead as ReaderHead′
 use Rattle.reader_list.proofs.heads.ReaderHead.Laws as ReaderHead″
-use Rattle.reader_list.proofs.arrays.Changed64 as Changed64′
-use Rattle.reader_list.proofs.arrays.Changed64.Laws as Changed64″
-use Rattle.reader_list.proofs.arrays.Changed2 as Changed2′
-use Rattle.reader_list.proofs.arrays.Changed2.Laws as Changed2″
 use Rattle.reader_list.proofs.walk.Seen as Seen′
 use Rattle.reader_list.proofs.walk.Seen.Laws as Seen″
 use Rattle.reader_list.proofs.ids.Sought as Sought′
@@ -78,27 +70,3 @@ decision = record {
   is-at = λ m vs is. LL.owed Put′.the-type Put″.the-laws m vs is .1 .0 .1;
   is-elem = λ m vs is. LL.owed Put′.the-type Put″.the-laws m vs is .1 .1 .0;
 }
-
--- what a call on an array of 64 slots hands back: an answer, and the slots
-abbrev pub changed-64 : Moved answer (array head 64)
-changed-64 =
-    pairOf answer (array head 64) Changed64′.the-type Changed64″.the-plain Changed64″.the-copy (λ m. m .answer) (λ m. m .heads)
-    (record {
-      tells = λ m vs is. LL.tells Changed64′.the-type Changed64″.the-laws m vs is ∙ ap (λ (v : Val). vstruct (vcons (answer .val (m .answer)) (vcons v vnil)) ∷ []) (field-val ReaderHead′.the-type ReaderHead″.the-laws (m .heads));
-      typed = λ 𝓤 H A W. LL.lawful Changed64′.the-type Changed64″.the-laws 𝓤 H A W .typed;
-      apart = λ m vs is. (LL.owed Changed64′.the-type Changed64″.the-laws m vs is .0, field-ok ReaderHead′.the-type ReaderHead″.the-laws ReaderHead″.the-plain ReaderHead″.the-copy 64 (m .heads) (LL.owed Changed64′.the-type Changed64″.the-laws m vs is .1 .0));
-      made = λ m ok ok′. subst (λ (v : Val). shadow (Changed64′.the-row .own m (vstruct (vcons (answer .val (m .answer)) (vcons v vnil)) ∷ []))) (field-val ReaderHead′.the-type ReaderHead″.the-laws (m .heads))
-          (LL.owes Changed64′.the-type Changed64″.the-laws m (ok, (ok-field ReaderHead′.the-type ReaderHead″.the-laws ReaderHead″.the-plain ReaderHead″.the-copy 64 (m .heads) ok′, tt)));
-    })
-
--- what a call on an array of 2 slots hands back: an answer, and the slots
-abbrev pub changed-2 : Moved answer (array head 2)
-changed-2 =
-    pairOf answer (array head 2) Changed2′.the-type Changed2″.the-plain Changed2″.the-copy (λ m. m .answer) (λ m. m .heads)
-    (record {
-      tells = λ m vs is. LL.tells Changed2′.the-type Changed2″.the-laws m vs is ∙ ap (λ (v : Val). vstruct (vcons (answer .val (m .answer)) (vcons v vnil)) ∷ []) (field-val ReaderHead′.the-type ReaderHead″.the-laws (m .heads));
-      typed = λ 𝓤 H A W. LL.lawful Changed2′.the-type Changed2″.the-laws 𝓤 H A W .typed;
-      apart = λ m vs is. (LL.owed Changed2′.the-type Changed2″.the-laws m vs is .0, field-ok ReaderHead′.the-type ReaderHead″.the-laws ReaderHead″.the-plain ReaderHead″.the-copy 2 (m .heads) (LL.owed Changed2′.the-type Changed2″.the-laws m vs is .1 .0));
-      made = λ m ok ok′. subst (λ (v : Val). shadow (Changed2′.the-row .own m (vstruct (vcons (answer .val (m .answer)) (vcons v vnil)) ∷ []))) (field-val ReaderHead′.the-type ReaderHead″.the-laws (m .heads))
-          (LL.owes Changed2′.the-type Changed2″.the-laws m (ok, (ok-field ReaderHead′.the-type ReaderHead″.the-laws ReaderHead″.the-plain ReaderHead″.the-copy 2 (m .heads) ok′, tt)));
-    })

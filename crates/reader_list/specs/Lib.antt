@@ -3,4 +3,3 @@ pub mod Readers
 pub mod Slots
 pub mod Alone
 pub mod Walk
-pub mod Arrays

@@ -25,8 +25,9 @@ use Rattle.requested_fragments.specs.Table.{coherentRooms, entriesOf, samplesRo
 use Rattle.requested_fragments.specs.Drain.{Piece, allAsked, Run, offering, turns, times, isAsked}
 use Rattle.requested_fragments.proofs.Drained.{drained, once}
 use Rattle.requested_fragments.proofs.Whole.{coherent-sound}
+use Rattle.requested_fragments.proofs.Coherent.{is-coherent}
 use Rattle.requested_fragments.proofs.Form.{marked-again}
-use Rattle.requested_fragments.proofs.Both.{Valid as EntriesValid, rooms-pass, rooms-hold, entries-valid}
+use Rattle.requested_fragments.proofs.Both.{Valid as EntriesValid, rooms-pass, rooms-hold, entries-valid, entries-few, sent-few}
 use Rattle.rtps_reader_proxy.specs.declared.proxy.ReaderProxy.{ReaderProxy}
 use Rattle.rtps_reader_proxy.specs.declared.proxy.Changed.{Changed}
 use Rattle.rtps_reader_proxy.specs.declared.fragments.NextFragRequested.{NextFragRequested}
@@ -74,7 +75,7 @@ module _ (h : ReaderProxy) (S W : List ℕ) (ok : fragsOk h S W ≡ true) where
   left n f = sent n f (entriesIn h S W)
 
   abbrev marks : ℕ → ℕ → Left2 Changed (List ℕ) (List ℕ)
-  marks n f = record { result = record { answer = done; proxy = countFrags (length (left n f)) h }; first = samplesRoom (left n f); second = wordsRoom (left n f) }
+  marks n f = record { result = record { answer = done; proxy = countFrags (length (left n f)) h }; first = samplesRoom (length S) (left n f); second = wordsRoom (length S) (left n f) }
 
   marks-is : (n : SequenceNumber) (f : FragmentNumber) → fragSentOf n f h S W ≡ marks (rankOf n) (f .0)
   marks-is n f =
@@ -85,13 +86,16 @@ module _ (h : ReaderProxy) (S W : List ℕ) (ok : fragsOk h S W ≡ true) where
       let y = marked-again (h .«frag_count») S W n f rooms in
       subst EntriesValid (y .1) (entries-valid (markedIn n f (h .«frag_count») S W .result) (markedIn n f (h .«frag_count») S W .first) (markedIn n f (h .«frag_count») S W .second) (y .0))
 
+  left-few : (n f : ℕ) → length (left n f) ≤ length S
+  left-few n f = omega (arith, sent-few n f (entriesIn h S W), entries-few (h .«frag_count») S W rooms)
+
   -- the record after it passes the check, and holds what is left
-  left-ok : (n f : ℕ) → fragsOk (countFrags (length (left n f)) h) (samplesRoom (left n f)) (wordsRoom (left n f)) ≡ true
+  left-ok : (n f : ℕ) → fragsOk (countFrags (length (left n f)) h) (samplesRoom (length S) (left n f)) (wordsRoom (length S) (left n f)) ≡ true
   left-ok n f =
       let k = head-is h (and-left (headOk h) (coherentRooms (h .«frag_count») S W) ok) in
-      and-both (headOk (countFrags (length (left n f)) h)) (coherentRooms (length (left n f)) (samplesRoom (left n f)) (wordsRoom (left n f)))
+      and-both (headOk (countFrags (length (left n f)) h)) (coherentRooms (length (left n f)) (samplesRoom (length S) (left n f)) (wordsRoom (length S) (left n f)))
       (rw (k .acked, le-leb 1 (h .«unsent_cap») (k .cap-low), le-leb (h .«unsent_cap») 1024 (k .cap-high), le-leb (h .«unsent_count») (h .«unsent_cap») (k .unsent), k .prefix, le-leb (h .«gap_count») 256 (k .gaps), le-leb (length (left n f)) 16 (left-valid n f .small)))
-      (rooms-pass (left n f) (left-valid n f))
+      (rooms-pass (length S) (left n f) (left-valid n f) (left-few n f) (is-coherent (h .«frag_count») S W rooms .lengthS))
 
 -- what the calls did is what the turns did
 pub record Alike (p : Played) (r : Run) : Type 0 where
@@ -122,8 +126,8 @@ alike (suc k) h S W ok =
         let ef : fragmentAt f .0 ≡ f = ap (λ (t : Bool). cond t f 0) (lt-ltb f 4294967296 (omega (arith, m .1))) in
         let es = left h S W ok n f in
         let is : fragSentOf (numberAt n) (fragmentAt f) h S W ≡ marks h S W ok n f = marks-is h S W ok (numberAt n) (fragmentAt f) ∙ ap (λ (x : ℕ). marks h S W ok x (fragmentAt f .0)) en ∙ ap (marks h S W ok n) ef in
-        let q = r (countFrags (length es) h) (samplesRoom es) (wordsRoom es) (left-ok h S W ok n f) in
-        let a : Alike (onward (play k) (marks h S W ok n f)) (turns k es) = subst (λ (x : List Entry). Alike (onward (play k) (marks h S W ok n f)) (turns k x)) (rooms-hold es (left-valid h S W ok n f)) q in
+        let q = r (countFrags (length es) h) (samplesRoom (length S) es) (wordsRoom (length S) es) (left-ok h S W ok n f) in
+        let a : Alike (onward (play k) (marks h S W ok n f)) (turns k es) = subst (λ (x : List Entry). Alike (onward (play k) (marks h S W ok n f)) (turns k x)) (rooms-hold (length S) es (left-valid h S W ok n f) (left-few h S W ok n f)) q in
         let b : Alike (onward (play k) (fragSentOf (numberAt n) (fragmentAt f) h S W)) (turns k es) = subst (λ (x : Left2 Changed (List ℕ) (List ℕ)). Alike (onward (play k) x) (turns k es)) (sym is) a in
         record {
           offered =

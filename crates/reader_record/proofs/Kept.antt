@@ -7,9 +7,9 @@ use mathlib.Core.Logic.{_⊎_, inl, inr}
 use native.Mathlib.Omega.{arith}
 use lib.Dec.{leb, ltb, eqb}
 use lib.ListN.{length, take, drop, length-drop}
-use borrow.Author.Tests.{leb-true, leb-false, ltb-true, ltb-false, not-false}
+use borrow.Author.Tests.{leb-true, leb-false, le-leb, ltb-true, ltb-false, not-false}
 use Rattle.sets.specs.Sets.{From, has, empty, insert, union, only, between, without, smallest, largest}
-use Rattle.sets.proofs.Bools.{and-left, and-right, decide}
+use Rattle.sets.proofs.Bools.{and-left, and-right, or-right, decide}
 use Rattle.sets.proofs.Has.{has-only, has-between, From-low, From-only, From-raise}
 use Rattle.sets.proofs.Smallest.{smallest-few, largest-few, From-drop, has-drop-sub}
 use Rattle.numbers.specs.Number.{topNumber}
@@ -21,8 +21,9 @@ use Rattle.requested_fragments.specs.Entries.{Entry, samplesOf, requested, sent
 use Rattle.requested_fragments.specs.Table.{coherentRooms, entriesOf, samplesRoom, wordsRoom, askedIn, markedIn}
 use Rattle.requested_fragments.proofs.Meaning.{Within}
 use Rattle.requested_fragments.proofs.Form.{marked-again}
-use Rattle.requested_fragments.proofs.Both.{Valid as EntriesValid, rooms-pass, rooms-hold, entries-valid}
+use Rattle.requested_fragments.proofs.Both.{Valid as EntriesValid, rooms-pass, rooms-hold, rooms-long, entries-valid}
 use Rattle.rtps_reader_proxy.specs.Reader.{Reader, fresh, withUnsent, withGaps, withFrags, baseOf, isAhead, isLate, ackedAfter, staying, wanted, acknowledge, notified, markedSent, removedBefore, untaken, needsRoom, gapInserted, gapUpTo, needsSlot, fragsRequested, fragSent}
+use Rattle.rtps_reader_proxy.specs.Record.{roomFor}
 use Rattle.reader_record.specs.Whole.{EachAsks, Valid}
 use Rattle.rtps_reader_proxy.proofs.UnsentCalls.{untaken-is}
 use Rattle.rtps_reader_proxy.proofs.FragCalls.{request-again}
@@ -144,23 +145,24 @@ module _ (r : Reader) (v : Valid r) where
 
   -- fragments: by the rooms of the entries
   abbrev S : List ℕ
-  S = samplesRoom (r .frags)
+  S = samplesRoom 16 (r .frags)
 
   abbrev W : List ℕ
-  W = wordsRoom (r .frags)
+  W = wordsRoom 16 (r .frags)
 
   pub requested-valid : (n : ℕ) (ms : List ℕ) → From 1 ms → Within ms 64 → 0 < n → n ≤ topNumber → (leb 16 (length (r .frags)) && needsSlot n ms r) ≡ false → Valid (fragsRequested n ms r)
   requested-valid n ms f w lo hi e =
       let c = length (r .frags) in
-      let hold : entriesOf c S W ≡ r .frags = rooms-hold (r .frags) (entries-in r v) in
-      let y = request-again c S W (rooms-pass (r .frags) (entries-in r v)) n ms f w lo hi (ap (λ (es : List Entry). leb 16 c && (not (empty ms) && not (has (samplesOf es) n))) hold ∙ e) in
+      let hold : entriesOf c S W ≡ r .frags = rooms-hold 16 (r .frags) (entries-in r v) (v .frags-few) in
+      let all : roomFor 1 16 c S ≡ true = or-right (leb 1 (length S - c)) (leb 16 (length S)) (le-leb 16 (length S) (omega (arith, rooms-long 16 (r .frags) (v .frags-few)))) in
+      let y = request-again c S W (rooms-pass 16 (r .frags) (entries-in r v) (v .frags-few) (omega arith)) n ms f w lo hi all (ap (λ (es : List Entry). leb 16 c && (not (empty ms) && not (has (samplesOf es) n))) hold ∙ e) in
       with-frags (requested n ms (r .frags))
       (subst EntriesValid (y .1 ∙ ap (requested n ms) hold) (entries-valid (askedIn n ms c S W .result) (askedIn n ms c S W .first) (askedIn n ms c S W .second) (y .0)))
 
   pub sent-valid : (n f : ℕ) → Valid (fragSent n f r)
   sent-valid n f =
       let c = length (r .frags) in
-      let hold : entriesOf c S W ≡ r .frags = rooms-hold (r .frags) (entries-in r v) in
-      let y = marked-again c S W n f (rooms-pass (r .frags) (entries-in r v)) in
+      let hold : entriesOf c S W ≡ r .frags = rooms-hold 16 (r .frags) (entries-in r v) (v .frags-few) in
+      let y = marked-again c S W n f (rooms-pass 16 (r .frags) (entries-in r v) (v .frags-few) (omega arith)) in
       with-frags (sent n f (r .frags))
       (subst EntriesValid (y .1 ∙ ap (sent n f) hold) (entries-valid (markedIn n f c S W .result) (markedIn n f c S W .first) (markedIn n f c S W .second) (y .0)))

@@ -34,14 +34,14 @@ use Rattle.rtps_reader_proxy.specs.declared.proxy.Changed.{Changed}
 use Rattle.rtps_reader_proxy.specs.declared.unsent.Taken.{Taken}
 use Rattle.rtps_reader_proxy.specs.declared.acks.AckNacked.{AckNacked}
 use Rattle.rtps_reader_proxy.specs.Reader.{Reader, withUnsent, withGaps, withFrags, isAhead, acknowledge, notified, markedSent, removedBefore, taken, untaken, needsRoom, gapInserted, gapUpTo, needsSlot, fragsRequested, fragSent}
-use Rattle.rtps_reader_proxy.specs.Record.{unsentOk, gapsOk, headOf, unsentRoom, gapRoom}
+use Rattle.rtps_reader_proxy.specs.Record.{roomFor, unsentOk, gapsOk, headOf, unsentRoom, gapRoom}
 use Rattle.rtps_reader_proxy.specs.Unsent.{countUnsent, byUnsent, unsentBy, notifiedOf, markedSentOf, removedBeforeOf, takenOf}
 use Rattle.rtps_reader_proxy.specs.Gaps.{countGaps, byGaps, gapsBy, beyond, gapInsertedOf, gapUpToOf}
 use Rattle.rtps_reader_proxy.specs.Fragments.{fragsOk, countFrags, byFrags, fragsBy, cannotAsk, noSlot, fragsRequestedOf, fragSentOf}
 use Rattle.rtps_reader_proxy.specs.Acks.{ackRows, ackNackedOf, ackLeaves}
 use Rattle.reader_record.specs.Whole.{Picture, isCoherent, view, form, Valid}
 use Rattle.rtps_reader_proxy.proofs.FragCalls.{CanAsk, can-ask}
-use Rattle.reader_record.proofs.Whole.{same-picture, view-form, form-coherent, view-valid, acked-back, prefix-back, unsent-back, gaps-back, frags-back}
+use Rattle.reader_record.proofs.Whole.{same-picture, view-form, form-coherent, view-valid, unsent-long, gaps-long, samples-long, acked-back, prefix-back, unsent-back, gaps-back, frags-back}
 use Rattle.reader_record.proofs.Kept.{notified-valid, marked-valid, removed-valid, untaken-valid, inserted-valid, up-to-valid, acknowledged-valid, requested-valid, sent-valid}
 
 -- a call that answers 0 did its step, and met no row
@@ -89,17 +89,17 @@ module _ (p : Picture) (c : isCoherent p ≡ true) (w : Words (p .words)) where
         let same : headOf (withUnsent l (view p)) ≡ countUnsent (length l) (p .head) = rw (acked-back p c, prefix-back p c, gaps-back p c .0, frags-back p c w .0) in
         same-picture withUnsentRoom (form (withUnsent l (view p))) (ex ∙ sym same) eu (sym (gaps-back p c .1)) (sym (frags-back p c w .1)) (sym (frags-back p c w .2))
 
-  module _ (rows : List Row) (f : Reader → Reader) (l : List ℕ) (ev : f (view p) ≡ withUnsent l (view p)) (eu : f (byUnsent (p .head) (p .unsent)) ≡ withUnsent l (byUnsent (p .head) (p .unsent)))
-      (r : Changed) (u : List ℕ) (g : Gives1 r u (unsentBy rows f (p .head) (p .unsent))) (z : r .answer .number ≡ 0) where
+  module _ (fits : Bool) (rows : List Row) (f : Reader → Reader) (l : List ℕ) (ev : f (view p) ≡ withUnsent l (view p)) (eu : f (byUnsent (p .head) (p .unsent)) ≡ withUnsent l (byUnsent (p .head) (p .unsent)))
+      (r : Changed) (u : List ℕ) (g : Gives1 r u (unsentBy fits rows f (p .head) (p .unsent))) (z : r .answer .number ≡ 0) where
     abbrev old-unsent : Answer → Left1 Changed (List ℕ)
     old-unsent a = record { result = record { answer = a; proxy = p .head }; first = p .unsent }
 
     abbrev new-unsent : Left1 Changed (List ℕ)
-    new-unsent = record { result = record { answer = done; proxy = countUnsent (length (f (byUnsent (p .head) (p .unsent)) .unsent)) (p .head) }; first = unsentRoom (f (byUnsent (p .head) (p .unsent))) }
+    new-unsent = record { result = record { answer = done; proxy = countUnsent (length (f (byUnsent (p .head) (p .unsent)) .unsent)) (p .head) }; first = roomOf (length (p .unsent)) (f (byUnsent (p .head) (p .unsent)) .unsent) }
 
-    unsent-did : (unsentBy rows f (p .head) (p .unsent) ≡ new-unsent) × Clear (rowsOf (row 1 (not (unsentOk (p .head) (p .unsent))) ∷ rows))
+    unsent-did : (unsentBy fits rows f (p .head) (p .unsent) ≡ new-unsent) × Clear (rowsOf (row 1 (not (fits && unsentOk (p .head) (p .unsent))) ∷ rows))
     unsent-did =
-        was-done (rowsOf (row 1 (not (unsentOk (p .head) (p .unsent))) ∷ rows)) old-unsent new-unsent (λ o. o .result .answer) (λ a. refl)
+        was-done (rowsOf (row 1 (not (fits && unsentOk (p .head) (p .unsent))) ∷ rows)) old-unsent new-unsent (λ o. o .result .answer) (λ a. refl)
         (ap (λ (x : Changed). x .answer .number) (sym (g .result)) ∙ z)
 
     unsent-does : Valid (f (view p)) → Stands (withUnsentRoom (r .proxy) u) (f (view p))
@@ -109,22 +109,22 @@ module _ (p : Picture) (c : isCoherent p ≡ true) (w : Words (p .words)) where
           is =
               put-unsent (r .proxy) u l
               (ap (λ (o : Changed). o .proxy) (g .result ∙ ap (λ (o : Left1 Changed (List ℕ)). o .result) d) ∙ ap (λ (q : Reader). countUnsent (length (q .unsent)) (p .head)) eu)
-              (g .first ∙ ap (λ (o : Left1 Changed (List ℕ)). o .first) d ∙ ap unsentRoom eu) ∙ ap form (sym ev);
+              (g .first ∙ ap (λ (o : Left1 Changed (List ℕ)). o .first) d ∙ ap (λ (q : Reader). roomOf (length (p .unsent)) (q .unsent)) eu ∙ ap (λ (m : ℕ). roomOf m l) (unsent-long p c)) ∙ ap form (sym ev);
           valid = y;
         }
 
   module _ (r : Changed) (u : List ℕ) where
     pub notify-does : (n : SequenceNumber) → Gives1 r u (notifiedOf n (p .head) (p .unsent)) → r .answer .number ≡ 0 → Stands (withUnsentRoom (r .proxy) u) (notified (rankOf n) (view p))
     notify-does n g z =
-        let k = unsent-did (row 2 (not (isSample n)) ∷ []) (notified (rankOf n)) (notified (rankOf n) (view p) .unsent) refl refl r u g z .1 in
+        let k = unsent-did (roomFor 1 (p .head .«unsent_cap») (p .head .«unsent_count») (p .unsent)) (row 2 (not (isSample n)) ∷ []) (notified (rankOf n)) (notified (rankOf n) (view p) .unsent) refl refl r u g z .1 in
         let s = sample-is n (not-false (isSample n) (k .range)) in
-        unsent-does (row 2 (not (isSample n)) ∷ []) (notified (rankOf n)) (notified (rankOf n) (view p) .unsent) refl refl r u g z (notified-valid (view p) v (rankOf n) (s .0) (s .1))
+        unsent-does (roomFor 1 (p .head .«unsent_cap») (p .head .«unsent_count») (p .unsent)) (row 2 (not (isSample n)) ∷ []) (notified (rankOf n)) (notified (rankOf n) (view p) .unsent) refl refl r u g z (notified-valid (view p) v (rankOf n) (s .0) (s .1))
 
     pub mark-does : (n : SequenceNumber) → Gives1 r u (markedSentOf n (p .head) (p .unsent)) → r .answer .number ≡ 0 → Stands (withUnsentRoom (r .proxy) u) (markedSent (rankOf n) (view p))
-    mark-does n g z = unsent-does [] (markedSent (rankOf n)) (markedSent (rankOf n) (view p) .unsent) refl refl r u g z (marked-valid (view p) v (rankOf n))
+    mark-does n g z = unsent-does true [] (markedSent (rankOf n)) (markedSent (rankOf n) (view p) .unsent) refl refl r u g z (marked-valid (view p) v (rankOf n))
 
     pub remove-before-does : (n : SequenceNumber) → Gives1 r u (removedBeforeOf n (p .head) (p .unsent)) → r .answer .number ≡ 0 → Stands (withUnsentRoom (r .proxy) u) (removedBefore (rankOf n) (view p))
-    remove-before-does n g z = unsent-does [] (removedBefore (rankOf n)) (removedBefore (rankOf n) (view p) .unsent) refl refl r u g z (removed-valid (view p) v (rankOf n))
+    remove-before-does n g z = unsent-does true [] (removedBefore (rankOf n)) (removedBefore (rankOf n) (view p) .unsent) refl refl r u g z (removed-valid (view p) v (rankOf n))
 
   pub take-does : (out : List ℕ) (r : Taken) (u o : List ℕ) → Gives2 r u o (takenOf (p .head) (p .unsent) out) → r .answer .number ≡ 0
       → Stands (withUnsentRoom (r .proxy) u) (withUnsent (untaken (length out) (view p .unsent)) (view p))
@@ -134,7 +134,7 @@ module _ (p : Picture) (c : isCoherent p ≡ true) (w : Words (p .words)) where
       record {
         is =
             put-unsent (r .proxy) u l (ap (λ (o : Taken). o .proxy) (g .result ∙ ap (λ (o : Left2 Taken (List ℕ) (List ℕ)). o .result) d))
-            (g .first ∙ ap (λ (o : Left2 Taken (List ℕ) (List ℕ)). o .first) d);
+            (g .first ∙ ap (λ (o : Left2 Taken (List ℕ) (List ℕ)). o .first) d ∙ ap (λ (m : ℕ). roomOf m l) (unsent-long p c));
         valid = untaken-valid (view p) v (length out);
       }
     where
@@ -145,7 +145,7 @@ module _ (p : Picture) (c : isCoherent p ≡ true) (w : Words (p .words)) where
       is-taken =
           record {
             result = record { answer = done; count = length (taken (length out) (view p .unsent)); proxy = countUnsent (length (untaken (length out) (view p .unsent))) (p .head) };
-            first = unsentRoom (withUnsent (untaken (length out) (view p .unsent)) (byUnsent (p .head) (p .unsent)));
+            first = roomOf (length (p .unsent)) (untaken (length out) (view p .unsent));
             second = filled (taken (length out) (view p .unsent)) out;
           }
 
@@ -159,8 +159,8 @@ module _ (p : Picture) (c : isCoherent p ≡ true) (w : Words (p .words)) where
         let same : headOf (withGaps e l (view p)) ≡ countGaps e (length l) (p .head) = rw (acked-back p c, unsent-back p c .0, frags-back p c w .0) in
         same-picture withGapRoom (form (withGaps e l (view p))) (ex ∙ sym same) (sym (unsent-back p c .1)) eg (sym (frags-back p c w .1)) (sym (frags-back p c w .2))
 
-  module _ (rows : List Row) (f : Reader → Reader) (e : ℕ) (l : List ℕ) (ev : f (view p) ≡ withGaps e l (view p)) (eg : f (byGaps (p .head) (p .gaps)) ≡ withGaps e l (byGaps (p .head) (p .gaps)))
-      (r : Changed) (u : List ℕ) (g : Gives1 r u (gapsBy rows f (p .head) (p .gaps))) (z : r .answer .number ≡ 0) where
+  module _ (fits : Bool) (rows : List Row) (f : Reader → Reader) (e : ℕ) (l : List ℕ) (ev : f (view p) ≡ withGaps e l (view p)) (eg : f (byGaps (p .head) (p .gaps)) ≡ withGaps e l (byGaps (p .head) (p .gaps)))
+      (r : Changed) (u : List ℕ) (g : Gives1 r u (gapsBy fits rows f (p .head) (p .gaps))) (z : r .answer .number ≡ 0) where
     abbrev old-gaps : Answer → Left1 Changed (List ℕ)
     old-gaps a = record { result = record { answer = a; proxy = p .head }; first = p .gaps }
 
@@ -168,12 +168,12 @@ module _ (p : Picture) (c : isCoherent p ≡ true) (w : Words (p .words)) where
     new-gaps =
         record {
           result = record { answer = done; proxy = countGaps (f (byGaps (p .head) (p .gaps)) .prefix) (length (f (byGaps (p .head) (p .gaps)) .gaps)) (p .head) };
-          first = gapRoom (f (byGaps (p .head) (p .gaps)));
+          first = roomOf (length (p .gaps)) (f (byGaps (p .head) (p .gaps)) .gaps);
         }
 
-    gaps-did : (gapsBy rows f (p .head) (p .gaps) ≡ new-gaps) × Clear (rowsOf (row 1 (not (gapsOk (p .head) (p .gaps))) ∷ rows))
+    gaps-did : (gapsBy fits rows f (p .head) (p .gaps) ≡ new-gaps) × Clear (rowsOf (row 1 (not (fits && gapsOk (p .head) (p .gaps))) ∷ rows))
     gaps-did =
-        was-done (rowsOf (row 1 (not (gapsOk (p .head) (p .gaps))) ∷ rows)) old-gaps new-gaps (λ o. o .result .answer) (λ a. refl)
+        was-done (rowsOf (row 1 (not (fits && gapsOk (p .head) (p .gaps))) ∷ rows)) old-gaps new-gaps (λ o. o .result .answer) (λ a. refl)
         (ap (λ (x : Changed). x .answer .number) (sym (g .result)) ∙ z)
 
     gaps-does : Valid (f (view p)) → Stands (withGapRoom (r .proxy) u) (f (view p))
@@ -183,7 +183,7 @@ module _ (p : Picture) (c : isCoherent p ≡ true) (w : Words (p .words)) where
           is =
               put-gaps (r .proxy) u e l
               (ap (λ (o : Changed). o .proxy) (g .result ∙ ap (λ (o : Left1 Changed (List ℕ)). o .result) d) ∙ ap (λ (q : Reader). countGaps (q .prefix) (length (q .gaps)) (p .head)) eg)
-              (g .first ∙ ap (λ (o : Left1 Changed (List ℕ)). o .first) d ∙ ap gapRoom eg) ∙ ap form (sym ev);
+              (g .first ∙ ap (λ (o : Left1 Changed (List ℕ)). o .first) d ∙ ap (λ (q : Reader). roomOf (length (p .gaps)) (q .gaps)) eg ∙ ap (λ (m : ℕ). roomOf m l) (gaps-long p c)) ∙ ap form (sym ev);
           valid = y;
         }
 
@@ -193,17 +193,17 @@ module _ (p : Picture) (c : isCoherent p ≡ true) (w : Words (p .words)) where
         let rows = row 2 (not (isSample n) || beyond n last) ∷ row 9 (leb 256 (p .head .«gap_count») && needsRoom (rankOf n) (byGaps (p .head) (p .gaps))) ∷ [] in
         let f = gapInserted (rankOf n) in
         let l = gapInserted (rankOf n) (view p) .gaps in
-        let k = gaps-did rows f (view p .prefix) l refl refl r u g z .1 in
+        let k = gaps-did (roomFor 1 256 (p .head .«gap_count») (p .gaps)) rows f (view p .prefix) l refl refl r u g z .1 in
         let s = sample-is n (not-false (isSample n) (neither (not (isSample n)) (beyond n last) (k .range) .0)) in
-        gaps-does rows f (view p .prefix) l refl refl r u g z
+        gaps-does (roomFor 1 256 (p .head .«gap_count») (p .gaps)) rows f (view p .prefix) l refl refl r u g z
         (inserted-valid (view p) v (rankOf n) (s .1) (ap (λ (m : ℕ). leb 256 m && needsRoom (rankOf n) (view p)) (gaps-back p c .0) ∙ k .gaps-full))
 
     pub gap-up-to-does : (e last : SequenceNumber) → Gives1 r u (gapUpToOf e last (p .head) (p .gaps)) → r .answer .number ≡ 0 → Stands (withGapRoom (r .proxy) u) (gapUpTo (rankOf e) (view p))
     gap-up-to-does e last g z =
         let rows = row 2 (negative e || beyond e last) ∷ [] in
         let f = gapUpTo (rankOf e) in
-        let k = gaps-did rows f (max (view p .prefix) (rankOf e)) (gapUpTo (rankOf e) (view p) .gaps) refl refl r u g z .1 in
-        gaps-does rows f (max (view p .prefix) (rankOf e)) (gapUpTo (rankOf e) (view p) .gaps) refl refl r u g z
+        let k = gaps-did true rows f (max (view p .prefix) (rankOf e)) (gapUpTo (rankOf e) (view p) .gaps) refl refl r u g z .1 in
+        gaps-does true rows f (max (view p .prefix) (rankOf e)) (gapUpTo (rankOf e) (view p) .gaps) refl refl r u g z
         (up-to-valid (view p) v (rankOf e) (below-top e last (neither (negative e) (beyond e last) (k .range) .1)))
 
   -- REQUESTED FRAGMENTS
@@ -211,13 +211,13 @@ module _ (p : Picture) (c : isCoherent p ≡ true) (w : Words (p .words)) where
     abbrev withFragRooms : Picture
     withFragRooms = record { head = x; unsent = p .unsent; gaps = p .gaps; samples = s; words = t }
 
-    put-frags : (es : List Entry) → x ≡ countFrags (length es) (p .head) → s ≡ samplesRoom es → t ≡ wordsRoom es → withFragRooms ≡ form (withFrags es (view p))
+    put-frags : (es : List Entry) → x ≡ countFrags (length es) (p .head) → s ≡ samplesRoom 16 es → t ≡ wordsRoom 16 es → withFragRooms ≡ form (withFrags es (view p))
     put-frags es ex e1 e2 =
         let same : headOf (withFrags es (view p)) ≡ countFrags (length es) (p .head) = rw (acked-back p c, prefix-back p c, unsent-back p c .0, gaps-back p c .0) in
         same-picture withFragRooms (form (withFrags es (view p))) (ex ∙ sym same) (sym (unsent-back p c .1)) (sym (gaps-back p c .1)) e1 e2
 
-  module _ (rows : List Row) (f : Reader → Reader) (es : List Entry) (ev : f (view p) ≡ withFrags es (view p)) (ef : f (byFrags (p .head) (p .samples) (p .words)) .frags ≡ es)
-      (r : Changed) (s t : List ℕ) (g : Gives2 r s t (fragsBy rows f (p .head) (p .samples) (p .words))) (z : r .answer .number ≡ 0) where
+  module _ (fits : Bool) (rows : List Row) (f : Reader → Reader) (es : List Entry) (ev : f (view p) ≡ withFrags es (view p)) (ef : f (byFrags (p .head) (p .samples) (p .words)) .frags ≡ es)
+      (r : Changed) (s t : List ℕ) (g : Gives2 r s t (fragsBy fits rows f (p .head) (p .samples) (p .words))) (z : r .answer .number ≡ 0) where
     abbrev old-frags : Answer → Left2 Changed (List ℕ) (List ℕ)
     old-frags a = record { result = record { answer = a; proxy = p .head }; first = p .samples; second = p .words }
 
@@ -225,13 +225,13 @@ module _ (p : Picture) (c : isCoherent p ≡ true) (w : Words (p .words)) where
     new-frags =
         record {
           result = record { answer = done; proxy = countFrags (length (f (byFrags (p .head) (p .samples) (p .words)) .frags)) (p .head) };
-          first = samplesRoom (f (byFrags (p .head) (p .samples) (p .words)) .frags);
-          second = wordsRoom (f (byFrags (p .head) (p .samples) (p .words)) .frags);
+          first = samplesRoom (length (p .samples)) (f (byFrags (p .head) (p .samples) (p .words)) .frags);
+          second = wordsRoom (length (p .samples)) (f (byFrags (p .head) (p .samples) (p .words)) .frags);
         }
 
-    frags-did : (fragsBy rows f (p .head) (p .samples) (p .words) ≡ new-frags) × Clear (rowsOf (row 1 (not (fragsOk (p .head) (p .samples) (p .words))) ∷ rows))
+    frags-did : (fragsBy fits rows f (p .head) (p .samples) (p .words) ≡ new-frags) × Clear (rowsOf (row 1 (not (fits && fragsOk (p .head) (p .samples) (p .words))) ∷ rows))
     frags-did =
-        was-done (rowsOf (row 1 (not (fragsOk (p .head) (p .samples) (p .words))) ∷ rows)) old-frags new-frags (λ o. o .result .answer) (λ a. refl)
+        was-done (rowsOf (row 1 (not (fits && fragsOk (p .head) (p .samples) (p .words))) ∷ rows)) old-frags new-frags (λ o. o .result .answer) (λ a. refl)
         (ap (λ (x : Changed). x .answer .number) (sym (g .result)) ∙ z)
 
     frags-does : Valid (f (view p)) → Stands (withFragRooms (r .proxy) s t) (f (view p))
@@ -241,8 +241,8 @@ module _ (p : Picture) (c : isCoherent p ≡ true) (w : Words (p .words)) where
           is =
               put-frags (r .proxy) s t es
               (ap (λ (o : Changed). o .proxy) (g .result ∙ ap (λ (o : Left2 Changed (List ℕ) (List ℕ)). o .result) d) ∙ ap (λ (q : List Entry). countFrags (length q) (p .head)) ef)
-              (g .first ∙ ap (λ (o : Left2 Changed (List ℕ) (List ℕ)). o .first) d ∙ ap samplesRoom ef)
-              (g .second ∙ ap (λ (o : Left2 Changed (List ℕ) (List ℕ)). o .second) d ∙ ap wordsRoom ef) ∙ ap form (sym ev);
+              (g .first ∙ ap (λ (o : Left2 Changed (List ℕ) (List ℕ)). o .first) d ∙ ap (samplesRoom (length (p .samples))) ef ∙ ap (λ (m : ℕ). samplesRoom m es) (samples-long p c))
+              (g .second ∙ ap (λ (o : Left2 Changed (List ℕ) (List ℕ)). o .second) d ∙ ap (wordsRoom (length (p .samples))) ef ∙ ap (λ (m : ℕ). wordsRoom m es) (samples-long p c)) ∙ ap form (sym ev);
           valid = y;
         }
 
@@ -253,15 +253,15 @@ module _ (p : Picture) (c : isCoherent p ≡ true) (w : Words (p .words)) where
         let rows = row 3 (ltb 256 (set .count)) ∷ row 2 (cannotAsk n set) ∷ row 10 (noSlot (rankOf n) set (p .head) (p .samples) (p .words)) ∷ [] in
         let ms = members (fragmentSet set) in
         let f = fragsRequested (rankOf n) ms in
-        let k = frags-did rows f (f (view p) .frags) refl refl r s t g z .1 in
+        let k = frags-did (roomFor 1 16 (p .head .«frag_count») (p .samples)) rows f (f (view p) .frags) refl refl r s t g z .1 in
         let a = can-ask n set (k .range) in
-        frags-does rows f (f (view p) .frags) refl refl r s t g z
+        frags-does (roomFor 1 16 (p .head .«frag_count») (p .samples)) rows f (f (view p) .frags) refl refl r s t g z
         (requested-valid (view p) v (rankOf n) ms (subst (From 1) (a .all) (askable-rises set)) (subst (λ (l : List ℕ). Within l 64) (a .all) (askable-within set)) (a .low) (a .high)
         (ap (λ (m : ℕ). leb 16 m && needsSlot (rankOf n) ms (view p)) (frags-back p c w .0) ∙ k .frags-full))
 
     pub frag-sent-does : (n : SequenceNumber) (k : FragmentNumber) → Gives2 r s t (fragSentOf n k (p .head) (p .samples) (p .words)) → r .answer .number ≡ 0
         → Stands (withFragRooms (r .proxy) s t) (fragSent (rankOf n) (k .0) (view p))
-    frag-sent-does n k g z = frags-does [] (fragSent (rankOf n) (k .0)) (fragSent (rankOf n) (k .0) (view p) .frags) refl refl r s t g z (sent-valid (view p) v (rankOf n) (k .0))
+    frag-sent-does n k g z = frags-does true [] (fragSent (rankOf n) (k .0)) (fragSent (rankOf n) (k .0) (view p) .frags) refl refl r s t g z (sent-valid (view p) v (rankOf n) (k .0))
 
   -- AN ACKNOWLEDGEMENT
   pub ack-nack-does : (set : SequenceNumberSet) (last : SequenceNumber) (r : AckNacked) (u g : List ℕ) → Gives2 r u g (ackNackedOf set last (p .head) (p .unsent) (p .gaps)) → r .answer .number ≡ 0
@@ -276,7 +276,8 @@ module _ (p : Picture) (c : isCoherent p ≡ true) (w : Words (p .words)) where
         is =
             same-picture (record { head = r .proxy; unsent = u; gaps = g; samples = p .samples; words = p .words }) (form q)
             (ap (λ (x : AckNacked). x .proxy) (o .result ∙ ap (λ (x : Left2 AckNacked (List ℕ) (List ℕ)). x .result) (did .0)) ∙ sym same)
-            (o .first ∙ ap (λ (x : Left2 AckNacked (List ℕ) (List ℕ)). x .first) (did .0)) (o .second ∙ ap (λ (x : Left2 AckNacked (List ℕ) (List ℕ)). x .second) (did .0))
+            (o .first ∙ ap (λ (x : Left2 AckNacked (List ℕ) (List ℕ)). x .first) (did .0) ∙ ap (λ (m : ℕ). roomOf m (q .unsent)) (unsent-long p c))
+            (o .second ∙ ap (λ (x : Left2 AckNacked (List ℕ) (List ℕ)). x .second) (did .0) ∙ ap (λ (m : ℕ). roomOf m (q .gaps)) (gaps-long p c))
             (sym (frags-back p c w .1)) (sym (frags-back p c w .2));
         valid =
             acknowledged-valid (view p) v (rankOf last) (rankOf (set .base)) (rankOf (set .base)) (members (sequenceSet set)) (members-rise (sequenceSet set))

@@ -8,7 +8,7 @@ use native.Mathlib.Omega.{arith}
 use lib.Dec.{leb, ltb, eqb}
 use lib.ListN.{length, take, length-take}
 use lib.Seq.{length-take-le}
-use borrow.Author.Tests.{leb-true, le-leb, eq-eqb}
+use borrow.Author.Tests.{leb-true, le-leb, eqb-true, eq-eqb}
 use Rattle.sets.specs.Sets.{From, has, empty}
 use Rattle.sets.proofs.Bools.{and-left, and-right, and-both}
 use Rattle.sets.proofs.Has.{From-low}
@@ -20,12 +20,12 @@ use Rattle.rising.proofs.Meaning.{Rising, rises-are, are-rising, room-take, roo
 use Rattle.requested_fragments.specs.Entries.{Entry, samplesOf}
 use Rattle.requested_fragments.specs.Table.{coherentRooms, entriesOf, samplesRoom, wordsRoom}
 use Rattle.requested_fragments.proofs.OneForm.{Words}
-use Rattle.requested_fragments.proofs.Both.{Valid as EntriesValid, Asks, rooms-pass, rooms-hold, entries-valid, rooms-are}
+use Rattle.requested_fragments.proofs.Both.{Valid as EntriesValid, Asks, rooms-pass, rooms-hold, rooms-long, entries-valid, rooms-are}
 use Rattle.rtps_reader_proxy.specs.declared.proxy.ReaderProxy.{ReaderProxy}
 use Rattle.rtps_reader_proxy.specs.Reader.{Reader}
 use Rattle.rtps_reader_proxy.specs.Record.{headOk, unsentOk, gapsOk, gapFloor, headOf, unsentRoom, gapRoom}
 use Rattle.rtps_reader_proxy.specs.Fragments.{fragsOk, entriesIn}
-use Rattle.reader_record.specs.Whole.{Picture, isCoherent, view, form, EachAsks, Valid}
+use Rattle.reader_record.specs.Whole.{Picture, isWhole, roomsOk, isCoherent, view, form, EachAsks, Valid}
 use Rattle.rtps_reader_proxy.proofs.UnsentCalls.{UnsentIs, unsent-is}
 use Rattle.rtps_reader_proxy.proofs.GapCalls.{GapsAre, gaps-are}
 
@@ -82,11 +82,29 @@ module _ (p : Picture) (c : isCoherent p ≡ true) where
   abbrev h : ReaderProxy
   h = p .head
 
+  whole : isWhole p ≡ true
+  whole = and-left (isWhole p) (roomsOk p) c
+
+  others : (eqb (length (p .gaps)) 256 && eqb (length (p .samples)) 16) ≡ true
+  others = and-right (eqb (length (p .unsent)) (p .head .«unsent_cap»)) (eqb (length (p .gaps)) 256 && eqb (length (p .samples)) 16) whole
+
+  pub unsent-long : length (p .unsent) ≡ p .head .«unsent_cap»
+  unsent-long = eqb-true (length (p .unsent)) (p .head .«unsent_cap») (and-left (eqb (length (p .unsent)) (p .head .«unsent_cap»)) (eqb (length (p .gaps)) 256 && eqb (length (p .samples)) 16) whole)
+
+  pub gaps-long : length (p .gaps) ≡ 256
+  gaps-long = eqb-true (length (p .gaps)) 256 (and-left (eqb (length (p .gaps)) 256) (eqb (length (p .samples)) 16) others)
+
+  pub samples-long : length (p .samples) ≡ 16
+  samples-long = eqb-true (length (p .samples)) 16 (and-right (eqb (length (p .gaps)) 256) (eqb (length (p .samples)) 16) others)
+
+  rooms : roomsOk p ≡ true
+  rooms = and-right (isWhole p) (roomsOk p) c
+
   pub us : UnsentIs (p .head) (p .unsent)
-  us = unsent-is (p .head) (p .unsent) (and-left (unsentOk (p .head) (p .unsent)) (gapsOk (p .head) (p .gaps) && fragsOk (p .head) (p .samples) (p .words)) c)
+  us = unsent-is (p .head) (p .unsent) (and-left (unsentOk (p .head) (p .unsent)) (gapsOk (p .head) (p .gaps) && fragsOk (p .head) (p .samples) (p .words)) rooms)
 
   rest : (gapsOk (p .head) (p .gaps) && fragsOk (p .head) (p .samples) (p .words)) ≡ true
-  rest = and-right (unsentOk (p .head) (p .unsent)) (gapsOk (p .head) (p .gaps) && fragsOk (p .head) (p .samples) (p .words)) c
+  rest = and-right (unsentOk (p .head) (p .unsent)) (gapsOk (p .head) (p .gaps) && fragsOk (p .head) (p .samples) (p .words)) rooms
 
   pub gs : GapsAre (p .head) (p .gaps)
   gs = gaps-are (p .head) (p .gaps) (and-left (gapsOk (p .head) (p .gaps)) (fragsOk (p .head) (p .samples) (p .words)) rest)
@@ -107,13 +125,13 @@ module _ (p : Picture) (c : isCoherent p ≡ true) where
   pub unsent-back : (length (view p .unsent) ≡ p .head .«unsent_count») × (unsentRoom (view p) ≡ p .unsent)
   unsent-back = (
     length-take-le (p .head .«unsent_count») (p .unsent) (us .run .fits),
-    ap (λ (m : ℕ). roomOf m (view p .unsent)) (sym (us .long)) ∙ sym (room-is 0 (p .head .«unsent_count») (p .unsent) (us .run)),
+    ap (λ (m : ℕ). roomOf m (view p .unsent)) (sym unsent-long) ∙ sym (room-is 0 (p .head .«unsent_count») (p .unsent) (us .run)),
   )
 
   pub gaps-back : (length (view p .gaps) ≡ p .head .«gap_count») × (gapRoom (view p) ≡ p .gaps)
   gaps-back = (
     length-take-le (p .head .«gap_count») (p .gaps) (gs .run .fits),
-    ap (λ (m : ℕ). roomOf m (view p .gaps)) (sym (gs .long)) ∙ sym (room-is (gapFloor (p .head)) (p .head .«gap_count») (p .gaps) (gs .run)),
+    ap (λ (m : ℕ). roomOf m (view p .gaps)) (sym gaps-long) ∙ sym (room-is (gapFloor (p .head)) (p .head .«gap_count») (p .gaps) (gs .run)),
   )
 
   pub view-valid : Valid (view p)
@@ -135,8 +153,13 @@ module _ (p : Picture) (c : isCoherent p ≡ true) where
 
   -- THERE AND BACK: nothing in the record is outside its reader
   module _ (w : Words (p .words)) where
-    pub frags-back : (length (view p .frags) ≡ p .head .«frag_count») × (samplesRoom (view p .frags) ≡ p .samples) × (wordsRoom (view p .frags) ≡ p .words)
-    frags-back = let r = rooms-are (p .head .«frag_count») (p .samples) (p .words) fs w in (sym (r .0), sym (r .1), sym (r .2))
+    pub frags-back : (length (view p .frags) ≡ p .head .«frag_count») × (samplesRoom 16 (view p .frags) ≡ p .samples) × (wordsRoom 16 (view p .frags) ≡ p .words)
+    frags-back =
+        let r = rooms-are (p .head .«frag_count») (p .samples) (p .words) fs w in (
+          sym (r .0),
+          ap (λ (k : ℕ). samplesRoom k (view p .frags)) (sym samples-long) ∙ sym (r .1),
+          ap (λ (k : ℕ). wordsRoom k (view p .frags)) (sym samples-long) ∙ sym (r .2),
+        )
 
     pub form-view : form (view p) ≡ p
     form-view = same-picture (form (view p)) p same-head (unsent-back .1) (gaps-back .1) (frags-back .1) (frags-back .2)
@@ -160,7 +183,7 @@ module _ (r : Reader) (v : Valid r) where
 
   pub view-form : view (form r) ≡ r
   view-form =
-      rw (acked-is, prefix-is, room-take (r .cap) (r .unsent), room-take 256 (r .gaps), rooms-hold (r .frags) (entries-in r v))
+      rw (acked-is, prefix-is, room-take (r .cap) (r .unsent), room-take 256 (r .gaps), rooms-hold 16 (r .frags) (entries-in r v) (v .frags-few))
 
   head-ok : headOk (headOf r) ≡ true
   head-ok =
@@ -179,10 +202,16 @@ module _ (r : Reader) (v : Valid r) where
       let fl : gapFloor (headOf r) ≡ max (r .prefix) (r .acked - 1) = rw (acked-is, prefix-is) in
       let u : runOk 0 (length (r .unsent)) (unsentRoom r) ≡ true = room-ok 0 (r .cap) (r .unsent) (v .unsent-few) rises in
       let g : runOk (gapFloor (headOf r)) (length (r .gaps)) (gapRoom r) ≡ true = ap (λ (x : ℕ). runOk x (length (r .gaps)) (gapRoom r)) fl ∙ room-ok (max (r .prefix) (r .acked - 1)) 256 (r .gaps) (v .gaps-few) gap-rises in
-      and-both (unsentOk (headOf r) (unsentRoom r)) (gapsOk (headOf r) (gapRoom r) && fragsOk (headOf r) (samplesRoom (r .frags)) (wordsRoom (r .frags)))
-      (and-both (headOk (headOf r)) (eqb (length (unsentRoom r)) (r .cap) && runOk 0 (length (r .unsent)) (unsentRoom r)) head-ok
-      (and-both (eqb (length (unsentRoom r)) (r .cap)) (runOk 0 (length (r .unsent)) (unsentRoom r)) (eq-eqb (length (unsentRoom r)) (r .cap) (room-length (r .cap) (r .unsent) (v .unsent-few))) u))
-      (and-both (gapsOk (headOf r) (gapRoom r)) (fragsOk (headOf r) (samplesRoom (r .frags)) (wordsRoom (r .frags)))
-      (and-both (headOk (headOf r)) (eqb (length (gapRoom r)) 256 && runOk (gapFloor (headOf r)) (length (r .gaps)) (gapRoom r)) head-ok
-      (and-both (eqb (length (gapRoom r)) 256) (runOk (gapFloor (headOf r)) (length (r .gaps)) (gapRoom r)) (eq-eqb (length (gapRoom r)) 256 (room-length 256 (r .gaps) (v .gaps-few))) g))
-      (and-both (headOk (headOf r)) (coherentRooms (length (r .frags)) (samplesRoom (r .frags)) (wordsRoom (r .frags))) head-ok (rooms-pass (r .frags) (entries-in r v))))
+      let lu = room-length (r .cap) (r .unsent) (v .unsent-few) in
+      let lg = room-length 256 (r .gaps) (v .gaps-few) in
+      let ls = rooms-long 16 (r .frags) (v .frags-few) in
+      and-both (isWhole (form r)) (roomsOk (form r))
+      (and-both (eqb (length (unsentRoom r)) (r .cap)) (eqb (length (gapRoom r)) 256 && eqb (length (samplesRoom 16 (r .frags))) 16) (eq-eqb (length (unsentRoom r)) (r .cap) lu)
+      (and-both (eqb (length (gapRoom r)) 256) (eqb (length (samplesRoom 16 (r .frags))) 16) (eq-eqb (length (gapRoom r)) 256 lg) (eq-eqb (length (samplesRoom 16 (r .frags))) 16 ls)))
+      (and-both (unsentOk (headOf r) (unsentRoom r)) (gapsOk (headOf r) (gapRoom r) && fragsOk (headOf r) (samplesRoom 16 (r .frags)) (wordsRoom 16 (r .frags)))
+      (and-both (headOk (headOf r)) (leb (length (unsentRoom r)) (r .cap) && runOk 0 (length (r .unsent)) (unsentRoom r)) head-ok
+      (and-both (leb (length (unsentRoom r)) (r .cap)) (runOk 0 (length (r .unsent)) (unsentRoom r)) (le-leb (length (unsentRoom r)) (r .cap) (omega (arith, lu))) u))
+      (and-both (gapsOk (headOf r) (gapRoom r)) (fragsOk (headOf r) (samplesRoom 16 (r .frags)) (wordsRoom 16 (r .frags)))
+      (and-both (headOk (headOf r)) (leb (length (gapRoom r)) 256 && runOk (gapFloor (headOf r)) (length (r .gaps)) (gapRoom r)) head-ok
+      (and-both (leb (length (gapRoom r)) 256) (runOk (gapFloor (headOf r)) (length (r .gaps)) (gapRoom r)) (le-leb (length (gapRoom r)) 256 (omega (arith, lg))) g))
+      (and-both (headOk (headOf r)) (coherentRooms (length (r .frags)) (samplesRoom 16 (r .frags)) (wordsRoom 16 (r .frags))) head-ok (rooms-pass 16 (r .frags) (entries-in r v) (v .frags-few) (omega arith)))))

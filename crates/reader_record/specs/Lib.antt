@@ -1,3 +1,4 @@
 -- The definitions of `reader_record`.
 pub mod Whole
 pub mod Play
+pub mod InPart

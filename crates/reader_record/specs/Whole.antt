@@ -3,6 +3,7 @@ use Prim.Native.Nat.{ℕ, _-_, _≤_, max}
 use mathlib.Core.Path.{_≡_}
 use mathlib.Core.Bool.{Bool, true, false, _&&_}
 use mathlib.Core.List.{List, [], _∷_}
+use lib.Dec.{eqb}
 use lib.ListN.{length}
 use Rattle.sets.specs.Sets.{From, has, empty}
 use Rattle.numbers.specs.Number.{topNumber, topFragment}
@@ -21,16 +22,23 @@ pub record Picture : Type 0 where
   pub samples : List ℕ
   pub words : List ℕ
 
--- what the calls test, of all rooms
+-- the rooms as their owner keeps them are whole, however much of them a call is lent; the words are 64 for each of the samples
+abbrev pub isWhole : Picture → Bool
+isWhole p = eqb (length (p .unsent)) (p .head .«unsent_cap») && (eqb (length (p .gaps)) 256 && eqb (length (p .samples)) 16)
+
+-- what the calls test, of all rooms; and both
+abbrev pub roomsOk : Picture → Bool
+roomsOk p = unsentOk (p .head) (p .unsent) && (gapsOk (p .head) (p .gaps) && fragsOk (p .head) (p .samples) (p .words))
+
 abbrev pub isCoherent : Picture → Bool
-isCoherent p = unsentOk (p .head) (p .unsent) && (gapsOk (p .head) (p .gaps) && fragsOk (p .head) (p .samples) (p .words))
+isCoherent p = isWhole p && roomsOk p
 
 -- the reader that it stands for, and back
 abbrev pub view : Picture → Reader
 view p = seen (p .head) (p .unsent) (p .gaps) (entriesIn (p .head) (p .samples) (p .words))
 
 abbrev pub form : Reader → Picture
-form r = record { head = headOf r; unsent = unsentRoom r; gaps = gapRoom r; samples = samplesRoom (r .frags); words = wordsRoom (r .frags) }
+form r = record { head = headOf r; unsent = unsentRoom r; gaps = gapRoom r; samples = samplesRoom 16 (r .frags); words = wordsRoom 16 (r .frags) }
 
 -- each entry asks for something: fragments 1 to 4,096, rising
 abbrev pub EachAsks : List Entry → Type 0

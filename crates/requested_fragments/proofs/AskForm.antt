@@ -13,19 +13,19 @@ use Rattle.sets.proofs.Has.{has-union, has-only, has-between, From-only, From-l
 use Rattle.sets.proofs.Bools.{and-left, and-right, and-both, and-no, decide}
 use mathlib.Core.Logic.{_⊎_, inl, inr}
 use Rattle.requested_fragments.specs.Words.{fragmentsOf}
-use Rattle.rising.specs.Runs.{risesAbove, over, roomOf}
+use Rattle.rising.specs.Runs.{risesAbove, over}
 use Rattle.numbers.specs.Number.{topNumber}
 use Rattle.requested_fragments.specs.Entries.{Entry, asked, requested, samplesOf}
-use Rattle.requested_fragments.specs.Table.{Block, blocksOf, samplesIn, wordsIn, askT, askAll, askable, view, tableOf, entriesOf, coherentRooms, fits, askedIn}
+use Rattle.requested_fragments.specs.Table.{Block, blocksOf, samplesIn, askT, askAll, askable, tableOf, entriesOf, coherentRooms, fits, askedIn}
 use Rattle.number_sets.specs.declared.fragment_number_set.FragmentNumberSet.{FragmentNumberSet}
 use Rattle.number_sets.specs.Bits.{members}
 use Rattle.number_sets.specs.Calls.{fragmentSet}
 use Rattle.number_sets.proofs.Meaning.{members-rise}
 use Rattle.requested_fragments.proofs.Laws.{fit}
 use Rattle.requested_fragments.proofs.Asking.{askAll-length}
-use Rattle.requested_fragments.proofs.Coherent.{Coherent, is-coherent, coherent-is}
+use Rattle.requested_fragments.proofs.Coherent.{Coherent, is-coherent}
 use Rattle.requested_fragments.proofs.Meaning.{Full, Within, askAll-is, askAll-new, ask-means}
-use Rattle.requested_fragments.proofs.Form.{Fit, holdT, form-coherent, form-table, coherent-fit, holding-form, rising-tail, rising-head}
+use Rattle.requested_fragments.proofs.Form.{Fit, holdT, coherent-fit, form-again, rising-tail, rising-head}
 
 some-has : (l : List ℕ) (n : ℕ) → has l n ≡ true → empty l ≡ false
 some-has [] n h = absurd (false≢true h)
@@ -88,8 +88,8 @@ module _ (n : ℕ) (ms : List ℕ) (g : From 1 ms) (h : Within ms 64) (s : empty
       go true false false e k r = rw (new, e) k
       go false y false e k r = rw e (r k)
 
-  pub ask-fit : (t : List Block) → Fit t → length (askT n ms t) ≤ 16 → Fit (askT n ms t)
-  ask-fit t f l = record { full = ask-full t (f .full); small = l; rises = ask-rises 0 t lo (f .rises); holds = ask-holds t (f .full) (f .holds) }
+  pub ask-fit : (k : ℕ) (t : List Block) → Fit k t → length (askT n ms t) ≤ k → Fit k (askT n ms t)
+  ask-fit k t f l = record { full = ask-full t (f .full); small = l; rises = ask-rises 0 t lo (f .rises); holds = ask-holds t (f .full) (f .holds) }
 
 -- the members of a set that can be asked for rise from 1 on, and have a bit
 pub askable-within : (set : FragmentNumberSet) → Within (askable set) 64
@@ -102,32 +102,31 @@ askable-rises set =
     From-raise (set .base .0) 1 (askable set) (From-only (set .base .0) (λ n. leb 1 n && leb n 4096) (members (fragmentSet set)) (members-rise (fragmentSet set)))
     (λ n e. askable-within set n e .0)
 
--- a request that finds room leaves rooms that pass the check, and hold what they held and what was asked for
+-- a request that finds room leaves rooms that pass the check, hold what they held and what was asked for, and are as long
 pub asked-again : (count : ℕ) (S W : List ℕ) (n : ℕ) (ms : List ℕ) → coherentRooms count S W ≡ true → From 1 ms → Within ms 64 → 0 < n → n ≤ 9223372036854775806
-    → length (askT n ms (tableOf count S W)) ≤ 16
+    → length (askT n ms (tableOf count S W)) ≤ length S
     → (coherentRooms (askedIn n ms count S W .result) (askedIn n ms count S W .first) (askedIn n ms count S W .second) ≡ true)
     × (entriesOf (askedIn n ms count S W .result) (askedIn n ms count S W .first) (askedIn n ms count S W .second) ≡ requested n ms (entriesOf count S W))
+    × (length (askedIn n ms count S W .first) ≡ length S)
 asked-again count S W n ms h r1 w lo hi room = go (empty ms) refl
   where
     c : Coherent count S W
     c = is-coherent count S W h
 
     k0 : fits count S W ≡ true
-    k0 = fit count S W (omega (arith, c .small, c .lengthS)) (omega (arith, c .small, c .lengthW))
+    k0 = fit count S W (c .small) (omega (arith, c .small, c .lengthW))
 
     go : (t : Bool) → empty ms ≡ t
         → (coherentRooms (askedIn n ms count S W .result) (askedIn n ms count S W .first) (askedIn n ms count S W .second) ≡ true)
         × (entriesOf (askedIn n ms count S W .result) (askedIn n ms count S W .first) (askedIn n ms count S W .second) ≡ cond t (entriesOf count S W) (asked n ms (entriesOf count S W)))
-    go true e = rw (k0, e) (h, refl)
+        × (length (askedIn n ms count S W .first) ≡ length S)
+    go true e = rw (k0, e) (h, refl, refl)
     go false e =
         let t = askT n ms (tableOf count S W) in
-        let f0 : Fit (tableOf count S W) = coherent-fit count S W c in
-        let g : Fit t = ask-fit n ms r1 w e lo hi (tableOf count S W) f0 room in
-        let q = holding-form count S W t c g in
-        let co : coherentRooms (length t) (roomOf 16 (samplesIn t)) (roomOf 1024 (wordsIn t)) ≡ true = coherent-is (length t) (roomOf 16 (samplesIn t)) (roomOf 1024 (wordsIn t)) (form-coherent t g) in
-        let vi : view (tableOf (length t) (roomOf 16 (samplesIn t)) (roomOf 1024 (wordsIn t))) ≡ asked n ms (view (tableOf count S W)) = ap view (form-table t g) ∙ ask-means n ms r1 w (tableOf count S W) (f0 .full) in
-        let k1 : fits (length t) S W ≡ true = fit (length t) S W (omega (arith, c .lengthS, room)) (omega (arith, c .lengthW, room)) in
-        rw (k0, e, k1) (rw (q .0, q .1) (co, vi))
+        let f0 : Fit (length S) (tableOf count S W) = coherent-fit count S W c in
+        let g : Fit (length S) t = ask-fit n ms r1 w e lo hi (length S) (tableOf count S W) f0 room in
+        let k1 : fits (length t) S W ≡ true = fit (length t) S W room (omega (arith, c .lengthW, room)) in
+        rw (k0, e, k1) (form-again count S W t c g (asked n ms (entriesOf count S W)) (ask-means n ms r1 w (tableOf count S W) (f0 .full)))
 
 -- of a set whose base is not 0 and that has no member above 4,096, all members can be asked for
 pub askable-all : (set : FragmentNumberSet) → 1 ≤ set .base .0 → empty (only (leb 4097) (members (fragmentSet set))) ≡ true → askable set ≡ members (fragmentSet set)

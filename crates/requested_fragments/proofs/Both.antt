@@ -11,16 +11,17 @@ use lib.Seq.{getD-set-same, getD-set-other, set-out}
 use lib.Bits.{bitOr, or-lt}
 use lib.Pow.{pow-lt}
 use borrow.Author.Tests.{eqb-true, eqb-false, ltb-true, ltb-false}
-use Rattle.sets.specs.Sets.{has, From, empty, insert}
+use Rattle.sets.specs.Sets.{has, From, empty, insert, without}
 use Rattle.sets.proofs.Bools.{decide, and-both}
 use Rattle.rising.specs.Runs.{risesAbove, roomOf}
+use Rattle.rising.proofs.Meaning.{room-length}
 use Rattle.requested_fragments.specs.Words.{fragmentsOf, asking}
-use Rattle.requested_fragments.specs.Entries.{Entry, asked, samplesOf}
+use Rattle.requested_fragments.specs.Entries.{Entry, asked, sent, samplesOf}
 use Rattle.requested_fragments.specs.Table.{Block, samplesIn, wordsIn, view, tableOf, entriesOf, coherentRooms, askAll, blocksFor, samplesRoom, wordsRoom}
 use Rattle.requested_fragments.proofs.Asking.{askAll-length}
 use Rattle.requested_fragments.proofs.Coherent.{Coherent, is-coherent, coherent-is}
 use Rattle.requested_fragments.proofs.Meaning.{Full, Within, askAll-new}
-use Rattle.requested_fragments.proofs.Form.{Fit, holdT, form-coherent, form-table, coherent-fit}
+use Rattle.requested_fragments.proofs.Form.{Fit, holdT, words-length, form-coherent, form-table, coherent-fit}
 use Rattle.requested_fragments.proofs.OneForm.{Words, Bounded, tables, bounded, is-form}
 use Rattle.requested_fragments.proofs.Frags.{frag-rises, frag-within}
 
@@ -58,27 +59,38 @@ hold-for (e ∷ es) h =
     and-both (not (empty (fragmentsOf (askAll (e .frags) (replicate 64 0))))) (holdT (blocksFor es))
     (ap not (ap empty (askAll-new 64 (e .frags) (h .0 .0) (h .0 .1 .0)) ∙ h .0 .1 .1)) (hold-for es (h .1))
 
-fit-for : (es : List Entry) → Valid es → Fit (blocksFor es)
-fit-for es v =
+fit-for : (k : ℕ) (es : List Entry) → Valid es → length es ≤ k → Fit k (blocksFor es)
+fit-for k es v few =
     record {
       full = full-for es;
-      small = omega (arith, length-for es, v .small);
+      small = omega (arith, length-for es);
       rises = ap (risesAbove 0) (samples-for es) ∙ v .rises;
       holds = hold-for es (v .asks);
     }
 
--- THE ROOMS OF VALID ENTRIES pass the check, and hold these entries
-pub rooms-pass : (es : List Entry) → Valid es → coherentRooms (length es) (samplesRoom es) (wordsRoom es) ≡ true
-rooms-pass es v =
-    subst (λ (k : ℕ). coherentRooms k (samplesRoom es) (wordsRoom es) ≡ true) (length-for es)
-    (subst (λ (l : List ℕ). coherentRooms (length (blocksFor es)) (roomOf 16 l) (wordsRoom es) ≡ true) (samples-for es)
-    (coherent-is (length (blocksFor es)) (roomOf 16 (samplesIn (blocksFor es))) (wordsRoom es) (form-coherent (blocksFor es) (fit-for es v))))
+pub samples-count : (es : List Entry) → length (samplesOf es) ≡ length es
+samples-count [] = refl
+samples-count (e ∷ es) = ap suc (samples-count es)
 
-pub rooms-hold : (es : List Entry) → Valid es → entriesOf (length es) (samplesRoom es) (wordsRoom es) ≡ es
-rooms-hold es v =
-    ap (λ (k : ℕ). entriesOf k (samplesRoom es) (wordsRoom es)) (sym (length-for es))
-    ∙ ap (λ (l : List ℕ). entriesOf (length (blocksFor es)) (roomOf 16 l) (wordsRoom es)) (sym (samples-for es))
-    ∙ ap view (form-table (blocksFor es) (fit-for es v)) ∙ view-for es (v .asks)
+pub words-count : (es : List Entry) → length (wordsIn (blocksFor es)) ≡ 64 * length es
+words-count es = words-length (blocksFor es) (full-for es) ∙ ap (λ (k : ℕ). 64 * k) (length-for es)
+
+pub rooms-long : (k : ℕ) (es : List Entry) → length es ≤ k → length (samplesRoom k es) ≡ k
+rooms-long k es few = room-length k (samplesOf es) (omega (arith, samples-count es))
+
+-- THE ROOMS OF VALID ENTRIES, for k samples, pass the check, and hold these entries
+module _ (k : ℕ) (es : List Entry) (v : Valid es) (few : length es ≤ k) where
+  pub rooms-pass : k ≤ 16 → coherentRooms (length es) (samplesRoom k es) (wordsRoom k es) ≡ true
+  rooms-pass most =
+      subst (λ (c : ℕ). coherentRooms c (samplesRoom k es) (wordsRoom k es) ≡ true) (length-for es)
+      (subst (λ (l : List ℕ). coherentRooms (length (blocksFor es)) (roomOf k l) (wordsRoom k es) ≡ true) (samples-for es)
+      (coherent-is (length (blocksFor es)) (roomOf k (samplesIn (blocksFor es))) (wordsRoom k es) (form-coherent k (blocksFor es) most (fit-for k es v few))))
+
+  pub rooms-hold : entriesOf (length es) (samplesRoom k es) (wordsRoom k es) ≡ es
+  rooms-hold =
+      ap (λ (c : ℕ). entriesOf c (samplesRoom k es) (wordsRoom k es)) (sym (length-for es))
+      ∙ ap (λ (l : List ℕ). entriesOf (length (blocksFor es)) (roomOf k l) (wordsRoom k es)) (sym (samples-for es))
+      ∙ ap view (form-table k (blocksFor es) (fit-for k es v few)) ∙ view-for es (v .asks)
 
 -- ---- back
 ask-words : (f : ℕ) (ws : List ℕ) → Words ws → Words (asking f ws)
@@ -138,10 +150,23 @@ pub entries-valid : (c : ℕ) (S W : List ℕ) → coherentRooms c S W ≡ true 
 entries-valid c S W h =
     let t = tableOf c S W in
     let f = coherent-fit c S W (is-coherent c S W h) in
-    record { small = omega (arith, view-length t, f .small); rises = ap (risesAbove 0) (view-samples t) ∙ f .rises; asks = asks-of t (f .full) (f .holds) }
+    record { small = omega (arith, view-length t, f .small, is-coherent c S W h .lengthS); rises = ap (risesAbove 0) (view-samples t) ∙ f .rises; asks = asks-of t (f .full) (f .holds) }
+
+-- there are no more of them than what is lent has room for; and no more after one was sent
+pub entries-few : (c : ℕ) (S W : List ℕ) → coherentRooms c S W ≡ true → length (entriesOf c S W) ≤ length S
+entries-few c S W h = omega (arith, view-length (tableOf c S W), coherent-fit c S W (is-coherent c S W h) .small)
+
+pub sent-few : (n f : ℕ) (es : List Entry) → length (sent n f es) ≤ length es
+sent-few n f [] = omega arith
+sent-few n f (e ∷ es) = go (eqb (e .sample) n) (empty (without f (e .frags))) (sent-few n f es)
+  where
+    go : (x y : Bool) → length (sent n f es) ≤ length es → length (cond x (cond y es (record { sample = e .sample; frags = without f (e .frags) } ∷ es)) (e ∷ sent n f es)) ≤ suc (length es)
+    go true true r = omega arith
+    go true false r = omega arith
+    go false y r = omega arith
 
 -- ROOMS THAT PASS THE CHECK are those of their entries
-pub rooms-are : (c : ℕ) (S W : List ℕ) → coherentRooms c S W ≡ true → Words W → (c ≡ length (entriesOf c S W)) × (S ≡ samplesRoom (entriesOf c S W)) × (W ≡ wordsRoom (entriesOf c S W))
+pub rooms-are : (c : ℕ) (S W : List ℕ) → coherentRooms c S W ≡ true → Words W → (c ≡ length (entriesOf c S W)) × (S ≡ samplesRoom (length S) (entriesOf c S W)) × (W ≡ wordsRoom (length S) (entriesOf c S W))
 rooms-are c S W h hw =
     let k = is-coherent c S W h in
     let t = tableOf c S W in
@@ -150,6 +175,6 @@ rooms-are c S W h hw =
     let e : tableOf c S W ≡ blocksFor (entriesOf c S W) = tables t (blocksFor es) (coherent-fit c S W k .full) (full-for es) (bounded (take c S) W hw) (bounded-for es) (sym (view-for es (v .asks))) in
     let a = is-form c S W k in (
       a .0 ∙ sym (view-length t),
-      a .1 ∙ ap (λ (l : List ℕ). roomOf 16 l) (sym (view-samples t)),
-      a .2 ∙ ap (λ (x : List Block). roomOf 1024 (wordsIn x)) e,
+      a .1 ∙ ap (λ (l : List ℕ). roomOf (length S) l) (sym (view-samples t)),
+      a .2 ∙ ap (λ (x : List Block). roomOf (64 * length S) (wordsIn x)) e,
     )

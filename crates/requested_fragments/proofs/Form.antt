@@ -5,7 +5,7 @@ use mathlib.Core.Bool.{Bool, true, false, not, cond, _&&_, true≢false, false�
 use mathlib.Core.List.{List, [], _∷_, _++_, append-assoc}
 use native.Mathlib.Omega.{arith}
 use lib.Dec.{eqb, ltb, leb}
-use lib.ListN.{length, take, drop, replicate, length-append, length-take, length-drop, length-replicate, replicate-append-replicate}
+use lib.ListN.{length, take, drop, replicate, length-append, length-take, length-drop, replicate-append-replicate}
 use lib.Seq.{length-take-le, take-at, drop-at, drop-drop}
 use borrow.Author.Tests.{eqb-true, ltb-true, lt-ltb, le-leb}
 use Rattle.sets.specs.Sets.{empty}
@@ -13,6 +13,7 @@ use Rattle.requested_fragments.specs.Words.{fragmentsOf, notAsking}
 use Rattle.requested_fragments.proofs.Frags.{notAsking-length}
 use Rattle.rising.specs.Runs.{risesAbove, zeros, over, roomOf}
 use Rattle.sets.proofs.Bools.{and-left, and-right, and-both}
+use Rattle.rising.proofs.Meaning.{room-length}
 use Rattle.numbers.specs.Number.{topNumber}
 use Rattle.requested_fragments.specs.Entries.{Entry, sent}
 use Rattle.requested_fragments.specs.Table.{Block, blocksOf, samplesIn, wordsIn, markT, allHold, view, tableOf, entriesOf, coherentRooms, markedIn, fits}
@@ -76,45 +77,47 @@ hold-back (b ∷ bs) rest f =
     ∙ ap (λ (w : List ℕ). not (empty (fragmentsOf (b .words))) && allHold (length bs) w) y
     ∙ ap (λ (t : Bool). not (empty (fragmentsOf (b .words))) && t) (hold-back bs rest (f .1))
 
-words-length : (t : List Block) → Full t → length (wordsIn t) ≡ 64 * length t
+pub words-length : (t : List Block) → Full t → length (wordsIn t) ≡ 64 * length t
 words-length [] f = refl
 words-length (b ∷ bs) f = length-append (b .words) (wordsIn bs) ∙ omega (arith, f .0, words-length bs (f .1))
 
--- what a table must be
-pub record Fit (t : List Block) : Type 0 where
+-- what a table must be, where k samples can stand in the room
+pub record Fit (k : ℕ) (t : List Block) : Type 0 where
   pub full : Full t
-  pub small : length t ≤ 16
+  pub small : length t ≤ k
   pub rises : risesAbove 0 (samplesIn t) ≡ true
   pub holds : holdT t ≡ true
 
-pub form-coherent : (t : List Block) → Fit t → Coherent (length t) (roomOf 16 (samplesIn t)) (roomOf 1024 (wordsIn t))
-form-coherent t f =
+pub form-coherent : (k : ℕ) (t : List Block) → k ≤ 16 → Fit k t → Coherent (length t) (roomOf k (samplesIn t)) (roomOf (64 * k) (wordsIn t))
+form-coherent k t few f =
     let ls : length (samplesIn t) ≡ length t = samples-length t in
     let lw : length (wordsIn t) ≡ 64 * length t = words-length t (f .full) in
+    let lk : length (roomOf k (samplesIn t)) ≡ k = room-length k (samplesIn t) (omega (arith, f .small)) in
+    let lj : length (roomOf (64 * k) (wordsIn t)) ≡ 64 * k = room-length (64 * k) (wordsIn t) (omega (arith, f .small)) in
     record {
-      small = f .small;
-      lengthS = length-append (samplesIn t) (replicate (16 - length (samplesIn t)) 0) ∙ omega (arith, length-replicate {A = ℕ} (16 - length (samplesIn t)) 0, ls, f .small);
-      lengthW = length-append (wordsIn t) (replicate (1024 - length (wordsIn t)) 0) ∙ omega (arith, length-replicate {A = ℕ} (1024 - length (wordsIn t)) 0, lw, f .small);
-      rises = ap (risesAbove 0) (take-at (samplesIn t) (replicate (16 - length (samplesIn t)) 0) (length t) ls) ∙ f .rises;
-      restS = ap zeros (drop-at (samplesIn t) (replicate (16 - length (samplesIn t)) 0) (length t) ls) ∙ zeros-rep (16 - length (samplesIn t));
-      holds = hold-back t (replicate (1024 - length (wordsIn t)) 0) (f .full) ∙ f .holds;
-      restW = ap zeros (drop-at (wordsIn t) (replicate (1024 - length (wordsIn t)) 0) (64 * length t) lw) ∙ zeros-rep (1024 - length (wordsIn t));
+      small = omega (arith, f .small);
+      lengthS = omega arith;
+      lengthW = omega arith;
+      rises = ap (risesAbove 0) (take-at (samplesIn t) (replicate (k - length (samplesIn t)) 0) (length t) ls) ∙ f .rises;
+      restS = ap zeros (drop-at (samplesIn t) (replicate (k - length (samplesIn t)) 0) (length t) ls) ∙ zeros-rep (k - length (samplesIn t));
+      holds = hold-back t (replicate (64 * k - length (wordsIn t)) 0) (f .full) ∙ f .holds;
+      restW = ap zeros (drop-at (wordsIn t) (replicate (64 * k - length (wordsIn t)) 0) (64 * length t) lw) ∙ zeros-rep (64 * k - length (wordsIn t));
     }
 
 -- the table in that form is the table
-pub form-table : (t : List Block) → Fit t → tableOf (length t) (roomOf 16 (samplesIn t)) (roomOf 1024 (wordsIn t)) ≡ t
-form-table t f =
-    ap (λ (ss : List ℕ). blocksOf ss (roomOf 1024 (wordsIn t))) (take-at (samplesIn t) (replicate (16 - length (samplesIn t)) 0) (length t) (samples-length t))
-    ∙ blocks-back t (replicate (1024 - length (wordsIn t)) 0) (f .full)
+pub form-table : (k : ℕ) (t : List Block) → Fit k t → tableOf (length t) (roomOf k (samplesIn t)) (roomOf (64 * k) (wordsIn t)) ≡ t
+form-table k t f =
+    ap (λ (ss : List ℕ). blocksOf ss (roomOf (64 * k) (wordsIn t))) (take-at (samplesIn t) (replicate (k - length (samplesIn t)) 0) (length t) (samples-length t))
+    ∙ blocks-back t (replicate (64 * k - length (wordsIn t)) 0) (f .full)
 
 -- ---- a record that passes the check holds such a table
 hold-of : (ss ws : List ℕ) → holdT (blocksOf ss ws) ≡ allHold (length ss) ws
 hold-of [] ws = refl
 hold-of (s ∷ ss) ws = ap (λ (t : Bool). not (empty (fragmentsOf (take 64 ws))) && t) (hold-of ss (drop 64 ws))
 
-pub coherent-fit : (count : ℕ) (S W : List ℕ) → Coherent count S W → Fit (tableOf count S W)
+pub coherent-fit : (count : ℕ) (S W : List ℕ) → Coherent count S W → Fit (length S) (tableOf count S W)
 coherent-fit count S W c =
-    let l : length (take count S) ≡ count = length-take-le count S (omega (arith, c .small, c .lengthS)) in
+    let l : length (take count S) ≡ count = length-take-le count S (c .small) in
     record {
       full = full-of (take count S) W (omega (arith, l, c .small, c .lengthW));
       small = omega (arith, length-of (take count S) W, l, c .small);
@@ -179,27 +182,36 @@ module _ (n f : ℕ) where
       go true false e false k q r = rw e q
       go false y e false k q r = rw k (r q)
 
-  pub mark-fit : (t : List Block) → Fit t → Fit (markT n f t)
-  mark-fit t g = record { full = mark-full t (g .full); small = omega (arith, mark-small t, g .small); rises = mark-rises 0 t (g .rises); holds = mark-holds t (g .holds) }
+  pub mark-fit : (k : ℕ) (t : List Block) → Fit k t → Fit k (markT n f t)
+  mark-fit k t g = record { full = mark-full t (g .full); small = omega (arith, mark-small t, g .small); rises = mark-rises 0 t (g .rises); holds = mark-holds t (g .holds) }
 
 -- ---- what a call leaves
-pub holding-form : (count : ℕ) (S W : List ℕ) (t : List Block) → Coherent count S W → Fit t
-    → (over S count (samplesIn t) ≡ roomOf 16 (samplesIn t)) × (over W (64 * count) (wordsIn t) ≡ roomOf 1024 (wordsIn t))
+pub holding-form : (count : ℕ) (S W : List ℕ) (t : List Block) → Coherent count S W → Fit (length S) t
+    → (over S count (samplesIn t) ≡ roomOf (length S) (samplesIn t)) × (over W (64 * count) (wordsIn t) ≡ roomOf (64 * length S) (wordsIn t))
 holding-form count S W t c f = (
-  over-room 16 count S (samplesIn t) (c .lengthS) (c .small) (omega (arith, samples-length t, f .small)) (c .restS),
-  over-room 1024 (64 * count) W (wordsIn t) (c .lengthW) (omega (arith, c .small)) (omega (arith, words-length t (f .full), f .small)) (c .restW),
+  over-room (length S) count S (samplesIn t) refl (c .small) (omega (arith, samples-length t, f .small)) (c .restS),
+  over-room (64 * length S) (64 * count) W (wordsIn t) (c .lengthW) (omega (arith, c .small)) (omega (arith, words-length t (f .full), f .small)) (c .restW),
 )
 
--- marking leaves rooms that pass the check, and hold what they held but that fragment
+-- rooms with such a table in the place of theirs pass the check, hold what it means, and are as long as before
+pub form-again : (count : ℕ) (S W : List ℕ) (t : List Block) → Coherent count S W → Fit (length S) t → (es : List Entry) → view t ≡ es
+    → (coherentRooms (length t) (over S count (samplesIn t)) (over W (64 * count) (wordsIn t)) ≡ true) × (entriesOf (length t) (over S count (samplesIn t)) (over W (64 * count) (wordsIn t)) ≡ es)
+    × (length (over S count (samplesIn t)) ≡ length S)
+form-again count S W t c g es e =
+    let q = holding-form count S W t c g in
+    let k = length S in
+    let co : coherentRooms (length t) (roomOf k (samplesIn t)) (roomOf (64 * k) (wordsIn t)) ≡ true = coherent-is (length t) (roomOf k (samplesIn t)) (roomOf (64 * k) (wordsIn t)) (form-coherent k t (c .lengthS) g) in
+    let vi : entriesOf (length t) (roomOf k (samplesIn t)) (roomOf (64 * k) (wordsIn t)) ≡ es = ap view (form-table k t g) ∙ e in
+    rw (q .0, q .1) (co, vi, room-length k (samplesIn t) (omega (arith, samples-length t, g .small)))
+
+-- marking leaves rooms that pass the check, hold what they held but that fragment, and are as long
 pub marked-again : (count : ℕ) (S W : List ℕ) (n f : ℕ) → coherentRooms count S W ≡ true
     → (coherentRooms (markedIn n f count S W .result) (markedIn n f count S W .first) (markedIn n f count S W .second) ≡ true)
     × (entriesOf (markedIn n f count S W .result) (markedIn n f count S W .first) (markedIn n f count S W .second) ≡ sent n f (entriesOf count S W))
+    × (length (markedIn n f count S W .first) ≡ length S)
 marked-again count S W n f h =
     let c = is-coherent count S W h in
     let t = markT n f (tableOf count S W) in
-    let g : Fit t = mark-fit n f (tableOf count S W) (coherent-fit count S W c) in
-    let q = holding-form count S W t c g in
-    let k : fits count S W ≡ true = fit count S W (omega (arith, c .small, c .lengthS)) (omega (arith, c .small, c .lengthW)) in
-    let co : coherentRooms (length t) (roomOf 16 (samplesIn t)) (roomOf 1024 (wordsIn t)) ≡ true = coherent-is (length t) (roomOf 16 (samplesIn t)) (roomOf 1024 (wordsIn t)) (form-coherent t g) in
-    let vi : view (tableOf (length t) (roomOf 16 (samplesIn t)) (roomOf 1024 (wordsIn t))) ≡ sent n f (view (tableOf count S W)) = ap view (form-table t g) ∙ mark-means n f (tableOf count S W) in
-    rw k (rw (q .0, q .1) (co, vi))
+    let g : Fit (length S) t = mark-fit n f (length S) (tableOf count S W) (coherent-fit count S W c) in
+    let k : fits count S W ≡ true = fit count S W (c .small) (omega (arith, c .small, c .lengthW)) in
+    rw k (form-again count S W t c g (sent n f (entriesOf count S W)) (mark-means n f (tableOf count S W)))

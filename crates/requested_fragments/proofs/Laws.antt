@@ -26,25 +26,28 @@ in-run f c a r u h g =
 
 -- ---- the check
 module _ (count : ℕ) (S W : List ℕ) where
-  pub check-samples : (length S ≡ 16 → ⊥) → false ≡ coherentRooms count S W
-  check-samples h = rw (ne-eqb (length S) 16 h)
+  pub check-samples : 16 < length S → false ≡ coherentRooms count S W
+  check-samples h = rw (lt-leb (length S) 16 h)
 
-  module _ (ls : length S ≡ 16) where
-    pub check-words : (length W ≡ 1024 → ⊥) → false ≡ coherentRooms count S W
-    check-words h = rw (eq-eqb (length S) 16 ls, ne-eqb (length W) 1024 h)
+  module _ (ls : length S ≤ 16) where
+    pub check-words : (length W ≡ length S * 64 → ⊥) → false ≡ coherentRooms count S W
+    check-words h = rw (le-leb (length S) 16 ls, ne-eqb (length W) (64 * length S) (λ e. h (omega arith)))
 
-    module _ (lw : length W ≡ 1024) where
+    module _ (lw : length W ≡ length S * 64) where
+      long : eqb (length W) (64 * length S) ≡ true
+      long = eq-eqb (length W) (64 * length S) (omega arith)
+
       pub check-run : runOk 0 count S ≡ false → false ≡ coherentRooms count S W
-      check-run h = rw (eq-eqb (length S) 16 ls, eq-eqb (length W) 1024 lw, h)
+      check-run h = rw (le-leb (length S) 16 ls, long, h)
 
-      pub run-few : runOk 0 count S ≡ true → count ≤ 16
-      run-few h = omega (arith, run-is 0 count S h .fits)
+      pub run-few : runOk 0 count S ≡ true → count ≤ length S
+      run-few h = run-is 0 count S h .fits
 
       pub check-rest : (a b : Bool) → runOk 0 count S ≡ true → a ≡ allHold count W → b ≡ zeros (take (length W - count * 64) (drop (count * 64) W)) → (a && b) ≡ coherentRooms count S W
       check-rest a b h p q =
           let t : count * 64 ≡ 64 * count = omega arith in
           let e : take (length W - count * 64) (drop (count * 64) W) ≡ drop (count * 64) W = take-all (length W - count * 64) (drop (count * 64) W) (rw length-drop (omega arith)) in
-          rw (eq-eqb (length S) 16 ls, eq-eqb (length W) 1024 lw, h) (ap (λ (x : Bool). x && b) p ∙ ap (λ (x : Bool). allHold count W && x) (q ∙ ap zeros e ∙ ap (λ (k : ℕ). zeros (drop k W)) t))
+          rw (le-leb (length S) 16 ls, long, h) (ap (λ (x : Bool). x && b) p ∙ ap (λ (x : Bool). allHold count W && x) (q ∙ ap zeros e ∙ ap (λ (k : ℕ). zeros (drop k W)) t))
 
 -- ---- marking
 module _ (count : ℕ) (S W : List ℕ) where

@@ -1,4 +1,4 @@
--- Two records that pass the check and ask for the same are the same, word by word. Assumes nothing.
+-- Two records of one length that pass the check and ask for the same are the same, word by word. Assumes nothing.
 use Prim.Native.Nat.{ℕ, zero, suc, _+_, _-_, _*_, _^_, _≤_, _<_}
 use mathlib.Core.Path.{_≡_, refl, sym, ap, subst, _∙_}
 use mathlib.Core.Bool.{Bool, true, false}
@@ -62,21 +62,21 @@ tables (t ∷ ts) (u ∷ us) f g h k e =
     ap (λ (x : ℕ). record { sample = x; words = t .words } ∷ ts) (q .0) ∙ ap (λ (x : List ℕ). record { sample = u .sample; words = x } ∷ ts) w ∙ ap (λ (x : List Block). u ∷ x) r
 
 -- the rooms are the form of their table
-pub is-form : (c : ℕ) (S W : List ℕ) → Coherent c S W → (c ≡ length (tableOf c S W)) × (S ≡ roomOf 16 (samplesIn (tableOf c S W))) × (W ≡ roomOf 1024 (wordsIn (tableOf c S W)))
+pub is-form : (c : ℕ) (S W : List ℕ) → Coherent c S W → (c ≡ length (tableOf c S W)) × (S ≡ roomOf (length S) (samplesIn (tableOf c S W))) × (W ≡ roomOf (64 * length S) (wordsIn (tableOf c S W)))
 is-form c S W k =
-    let l : length (take c S) ≡ c = length-take-le c S (omega (arith, k .small, k .lengthS)) in
+    let l : length (take c S) ≡ c = length-take-le c S (k .small) in
     let q = holding-form c S W (tableOf c S W) k (coherent-fit c S W k) in (
       sym (length-of (take c S) W ∙ l),
-      room-same c S (omega (arith, k .small, k .lengthS)) ∙ ap (over S c) (sym (samples-of (take c S) W)) ∙ q .0,
+      room-same c S (k .small) ∙ ap (over S c) (sym (samples-of (take c S) W)) ∙ q .0,
       room-same (64 * c) W (omega (arith, k .small, k .lengthW)) ∙ ap (over W (64 * c)) (sym (words-of (take c S) W ∙ ap (λ (x : ℕ). take (64 * x) W) l)) ∙ q .1,
     )
 
-pub one-form : (c d : ℕ) (S W X Y : List ℕ) → Coherent c S W → Coherent d X Y → Words W → Words Y → view (tableOf c S W) ≡ view (tableOf d X Y) → (c ≡ d) × (S ≡ X) × (W ≡ Y)
-one-form c d S W X Y h k hw hy e =
+pub one-form : (c d : ℕ) (S W X Y : List ℕ) → Coherent c S W → Coherent d X Y → length S ≡ length X → Words W → Words Y → view (tableOf c S W) ≡ view (tableOf d X Y) → (c ≡ d) × (S ≡ X) × (W ≡ Y)
+one-form c d S W X Y h k l hw hy e =
     let t : tableOf c S W ≡ tableOf d X Y = tables (tableOf c S W) (tableOf d X Y) (coherent-fit c S W h .full) (coherent-fit d X Y k .full) (bounded (take c S) W hw) (bounded (take d X) Y hy) e in
     let a = is-form c S W h in
     let b = is-form d X Y k in (
       a .0 ∙ ap length t ∙ sym (b .0),
-      a .1 ∙ ap (λ (x : List Block). roomOf 16 (samplesIn x)) t ∙ sym (b .1),
-      a .2 ∙ ap (λ (x : List Block). roomOf 1024 (wordsIn x)) t ∙ sym (b .2),
+      a .1 ∙ ap (λ (m : ℕ). roomOf m (samplesIn (tableOf c S W))) l ∙ ap (λ (x : List Block). roomOf (length X) (samplesIn x)) t ∙ sym (b .1),
+      a .2 ∙ ap (λ (m : ℕ). roomOf (64 * m) (wordsIn (tableOf c S W))) l ∙ ap (λ (x : List Block). roomOf (64 * length X) (wordsIn x)) t ∙ sym (b .2),
     )

@@ -29,7 +29,7 @@ sound-of (s ∷ ss) ws p h g =
 pub coherent-sound : (count : ℕ) (S W : List ℕ) → coherentRooms count S W ≡ true → Sound 1 (view (tableOf count S W))
 coherent-sound count S W h =
     let c = is-coherent count S W h in
-    let l : length (take count S) ≡ count = length-take-le count S (omega (arith, c .small, c .lengthS)) in
+    let l : length (take count S) ≡ count = length-take-le count S (c .small) in
     sound-of (take count S) W 0 (c .rises) (ap (λ (k : ℕ). allHold k W) l ∙ c .holds)
 
 -- THE THEOREM: from any record that passes the check, repeating 'next fragment from 1, mark it sent' offers all that is asked for, in order, and nothing else; then nothing is asked for

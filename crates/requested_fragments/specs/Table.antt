@@ -47,11 +47,12 @@ abbrev pub allHold : ℕ → List ℕ → Bool
 allHold zero ws = true
 allHold (suc k) ws = not (empty (fragmentsOf (take 64 ws))) && allHold k (drop 64 ws)
 
--- "fragment samples rise strictly and are valid sample numbers, each fragment entry holds a bit, and unused room is zero"
+-- "fragment samples rise strictly and are valid sample numbers, each fragment entry holds a bit, and unused room is zero", of what is lent: any number of samples
+-- up to 16, and 64 words for each
 abbrev pub coherentRooms : ℕ → List ℕ → List ℕ → Bool
 coherentRooms count samples words =
-    eqb (length samples) 16
-    && (eqb (length words) 1024
+    leb (length samples) 16
+    && (eqb (length words) (64 * length samples)
     && (runOk 0 count samples && (allHold count words && zeros (drop (64 * count) words))))
 
 -- the fragments ms of one block are asked for
@@ -59,16 +60,16 @@ abbrev pub askAll : List ℕ → List ℕ → List ℕ
 askAll [] ws = ws
 askAll (f ∷ fs) ws = askAll fs (asking f ws)
 
--- and back: the rooms that entries have
+-- and back: the rooms that entries have, where k samples can stand there
 abbrev pub blocksFor : List Entry → List Block
 blocksFor [] = []
 blocksFor (e ∷ es) = record { sample = e .sample; words = askAll (e .frags) (replicate 64 0) } ∷ blocksFor es
 
-abbrev pub samplesRoom : List Entry → List ℕ
-samplesRoom es = roomOf 16 (samplesOf es)
+abbrev pub samplesRoom : ℕ → List Entry → List ℕ
+samplesRoom k es = roomOf k (samplesOf es)
 
-abbrev pub wordsRoom : List Entry → List ℕ
-wordsRoom es = roomOf 1024 (wordsIn (blocksFor es))
+abbrev pub wordsRoom : ℕ → List Entry → List ℕ
+wordsRoom k es = roomOf (64 * k) (wordsIn (blocksFor es))
 
 -- fragment f of sample n is sent; a block that asks for nothing goes
 abbrev pub keepBlock : Block → List Block → List Block

@@ -32,48 +32,6 @@ zeros-more s i acc h e =
 pub zeros-end : (s : List ℕ) (i acc : ℕ) → length s ≤ i → zeros s ≡ (eqb acc 0 && zeros (drop i s)) → eqb acc 0 ≡ zeros s
 zeros-end s i acc h e = sym (e ∙ ap (λ (l : List ℕ). eqb acc 0 && zeros l) (done s i h) ∙ and-yes (eqb acc 0))
 
--- four words more, each or-ed to one of four
-abbrev pub four : ℕ → ℕ → ℕ → ℕ → ℕ
-four a b c d = bitOr (bitOr a b) (bitOr c d)
-
-mix : (a b c d w x y z : Bool) → ((((((a && b) && (c && d)) && w) && x) && y) && z) ≡ (((a && w) && (b && x)) && ((c && y) && (d && z)))
-mix false b c d w x y z = refl
-mix true false c d w x y z = rw (and-no w)
-mix true true false d w x y z = sym (and-no (w && x))
-mix true true true false w x y z = rw (and-no y) (sym (and-no (w && x)))
-mix true true true true w x y z = and-assoc (w && x) y z
-
-four-zero : (a b c d : ℕ) → eqb (four a b c d) 0 ≡ ((eqb a 0 && eqb b 0) && (eqb c 0 && eqb d 0))
-four-zero a b c d = or-zero (bitOr a b) (bitOr c d) ∙ ap₂ _&&_ (or-zero a b) (or-zero c d)
-
-in-turn : (f w x y z l : Bool) → (f && (w && (x && (y && (z && l))))) ≡ (((((f && w) && x) && y) && z) && l)
-in-turn false w x y z l = refl
-in-turn true false x y z l = refl
-in-turn true true false y z l = refl
-in-turn true true true false z l = refl
-in-turn true true true true z l = refl
-
-four-more : (a b c d w x y z : ℕ) (l : List ℕ) → (eqb (four a b c d) 0 && zeros (w ∷ x ∷ y ∷ z ∷ l)) ≡ (eqb (four (bitOr a w) (bitOr b x) (bitOr c y) (bitOr d z)) 0 && zeros l)
-four-more a b c d w x y z l =
-    in-turn (eqb (four a b c d) 0) (eqb w 0) (eqb x 0) (eqb y 0) (eqb z 0) (zeros l)
-    ∙ ap (λ (f : Bool). ((((f && eqb w 0) && eqb x 0) && eqb y 0) && eqb z 0) && zeros l) (four-zero a b c d)
-    ∙ ap (λ (f : Bool). f && zeros l)
-    (mix (eqb a 0) (eqb b 0) (eqb c 0) (eqb d 0) (eqb w 0) (eqb x 0) (eqb y 0) (eqb z 0)
-    ∙ sym (four-zero (bitOr a w) (bitOr b x) (bitOr c y) (bitOr d z) ∙ ap₂ _&&_ (ap₂ _&&_ (or-zero a w) (or-zero b x)) (ap₂ _&&_ (or-zero c y) (or-zero d z))))
-
-four-ahead : (s : List ℕ) (i : ℕ) → i + 4 ≤ length s → drop i s ≡ getD s i 0 ∷ getD s (i + 1) 0 ∷ getD s (i + 2) 0 ∷ getD s (i + 3) 0 ∷ drop (i + 4) s
-four-ahead s i h =
-    let e : i + 1 + 1 ≡ i + 2 = omega arith in
-    let f : i + 2 + 1 ≡ i + 3 = omega arith in
-    let g : i + 3 + 1 ≡ i + 4 = omega arith in
-    rw (here s i (omega arith), here s (i + 1) (omega arith), e, here s (i + 2) (omega arith), f, here s (i + 3) (omega arith), g)
-
-pub zeros-four : (s : List ℕ) (i a b c d : ℕ) → i + 4 ≤ length s → zeros s ≡ (eqb (four a b c d) 0 && zeros (drop i s))
-    → zeros s ≡ (eqb (four (bitOr a (getD s i 0)) (bitOr b (getD s (i + 1) 0)) (bitOr c (getD s (i + 2) 0)) (bitOr d (getD s (i + 3) 0))) 0 && zeros (drop (i + 4) s))
-zeros-four s i a b c d h e =
-    e ∙ ap (λ (l : List ℕ). eqb (four a b c d) 0 && zeros l) (four-ahead s i h)
-    ∙ four-more a b c d (getD s i 0) (getD s (i + 1) 0) (getD s (i + 2) 0) (getD s (i + 3) 0) (drop (i + 4) s)
-
 and-mix : (a b c d : Bool) → ((a && b) && (c && d)) ≡ ((a && c) && (b && d))
 and-mix true true c d = refl
 and-mix true false c d = sym (and-no c)
@@ -158,19 +116,34 @@ rises-more s i high up r q t o h m n w e =
     let z : i + 1 - 1 ≡ i = omega arith in
     rw z (e ∙ ap (λ (x : Bool). t && x) (ap (λ (l : List ℕ). climbs high up && rest (getD s (i - 1) 0) l) (here s i h) ∙ steps high up (getD s (i - 1) 0) (getD s i 0) r m n w (drop (i + 1) s)))
 
-pub rises-end : (s : List ℕ) (i high up : ℕ) (q t : Bool) → 1 ≤ i → i ≤ length s → length s ≤ i → q ≡ (t && (climbs high up && rest (getD s (i - 1) 0) (drop i s)))
-    → (t && (climbs high up && leb (getD s (length s - 1) 0) topNumber)) ≡ q
-rises-end s i high up q t o k h e =
+-- the first isn't above p, or the last is no sample number: then they don't rise. Else it goes by the steps between
+pub rises-not : (p : ℕ) (s : List ℕ) → 0 < length s → getD s 0 0 ≤ p → false ≡ risesAbove p s
+rises-not p s h k = sym (rises-first p s h ∙ ap (λ (t : Bool). t && rest (getD s 0 0) (drop 1 s)) (le-ltb p (getD s 0 0) k))
+
+past : (p k : ℕ) (s : List ℕ) → length s ≡ suc k → topNumber < getD s k 0 → false ≡ risesAbove p s
+past p k [] e h = absurd (omega arith)
+past p zero (x ∷ xs) e h = rw (lt-leb x topNumber h) (sym (and-no (ltb p x)))
+past p (suc k) (x ∷ xs) e h = rw (← (past x k xs (omega arith) h), and-no (leb x topNumber), and-no (ltb p x))
+
+pub rises-past : (p : ℕ) (s : List ℕ) → 0 < length s → topNumber < getD s (length s - 1) 0 → false ≡ risesAbove p s
+rises-past p s h k = past p (length s - 1) s (omega arith) k
+
+pub rises-end : (p : ℕ) (s : List ℕ) (i high up : ℕ) → p < getD s 0 0 → getD s (length s - 1) 0 ≤ topNumber → 1 ≤ i → i ≤ length s → length s ≤ i
+    → risesAbove p s ≡ (ltb p (getD s 0 0) && (climbs high up && rest (getD s (i - 1) 0) (drop i s))) → climbs high up ≡ risesAbove p s
+rises-end p s i high up f l o k h e =
     let z : i ≡ length s = omega arith in
-    sym (e ∙ ap (λ (x : Bool). t && (climbs high up && x)) (ap (rest (getD s (i - 1) 0)) (done s i h) ∙ and-yes (leb (getD s (i - 1) 0) topNumber) ∙ ap (λ (x : ℕ). leb (getD s (x - 1) 0) topNumber) z))
+    sym (e ∙ rw (lt-ltb p (getD s 0 0) f, done s i h, z, le-leb (getD s (length s - 1) 0) topNumber l) (and-yes (climbs high up)))
 
 -- the check of a room
 pub run-short : (p count : ℕ) (s : List ℕ) → length s < count → false ≡ runOk p count s
 run-short p count s h = rw (lt-leb count (length s) h)
 
-pub run-whole : (p count : ℕ) (s : List ℕ) (good clear : Bool) → count ≤ length s → good ≡ risesAbove p (take count s) → clear ≡ zeros (take (length s - count) (drop count s)) → (good && clear) ≡ runOk p count s
-run-whole p count s good clear h e f =
-    rw (le-leb count (length s) h, ← e) (ap (λ (b : Bool). good && b) (f ∙ ap zeros (take-all (length s - count) (drop count s) (omega (arith, length-drop count s)))))
+module _ (p count : ℕ) (s : List ℕ) (good : Bool) (h : count ≤ length s) (e : good ≡ risesAbove p (take count s)) where
+  pub run-not : good ≡ false → false ≡ runOk p count s
+  run-not f = rw (le-leb count (length s) h, ← e, f)
+
+  pub run-whole : good ≡ true → (clear : Bool) → clear ≡ zeros (take (length s - count) (drop count s)) → clear ≡ runOk p count s
+  run-whole f clear g = rw (le-leb count (length s) h, ← e, f) (g ∙ ap zeros (take-all (length s - count) (drop count s) (omega (arith, length-drop count s))))
 
 -- the place of n
 pub place-hit : (s : List ℕ) (n i : ℕ) → i < length s → n ≤ getD s i 0 → placeOf n (drop i s) ≡ 0

@@ -17,8 +17,12 @@ pub fn rises(s: &[u64], above: u64) -> bool
     if s.len() == 0 {
         return true;
     }
-    let first = s[0];
-    let last = s[s.len() - 1];
+    if s[0] <= above {
+        return false;
+    }
+    if 9223372036854775806 < s[s.len() - 1] {
+        return false;
+    }
     let mut high: u64 = 0;
     let mut up: u64 = u64::MAX;
     let mut i = 1;
@@ -29,29 +33,15 @@ pub fn rises(s: &[u64], above: u64) -> bool
         up = up & std::num::wrapping_sub_u64(a, b);
         i += 1;
     }
-    let steps = (high < 9223372036854775808) & (9223372036854775808 <= up);
-    (above < first) & (steps & (last <= 9223372036854775806))
+    (high < 9223372036854775808) & (9223372036854775808 <= up)
 }
 
-// All numbers are or-ed, four to a turn and with no early exit: this becomes vector code.
+// All numbers are or-ed, with no early exit: this becomes vector code.
 pub fn all_zero(s: &[u64]) -> bool
     ensures { λ r. ⌜ r ≡ zeros (now (s .entry)) ⌝ }
 {
-    let mut a: u64 = 0;
-    let mut b: u64 = 0;
-    let mut c: u64 = 0;
-    let mut d: u64 = 0;
-    let fours = s.len() / 4;
-    let mut j = 0;
-    while j < fours {
-        a = a | s[4 * j];
-        b = b | s[4 * j + 1];
-        c = c | s[4 * j + 2];
-        d = d | s[4 * j + 3];
-        j += 1;
-    }
-    let mut acc = (a | b) | (c | d);
-    let mut i = 4 * j;
+    let mut acc: u64 = 0;
+    let mut i = 0;
     while i < s.len() {
         acc = acc | s[i];
         i += 1;
@@ -66,9 +56,10 @@ pub fn run_ok(s: &[u64], count: usize, above: u64) -> bool
     if s.len() < count {
         return false;
     }
-    let good = rises(&s[..count], above);
-    let clear = all_zero(&s[count..]);
-    good & clear
+    if !rises(&s[..count], above) {
+        return false;
+    }
+    all_zero(&s[count..])
 }
 
 // Whether n is among the numbers.

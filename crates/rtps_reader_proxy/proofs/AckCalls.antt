@@ -3,9 +3,10 @@ use Prim.Native.Nat.{ℕ, zero, suc, _+_, _-_, _≤_, _<_, min, max}
 use mathlib.Core.Path.{_≡_, refl, sym, ap, subst, _∙_}
 use mathlib.Core.Bool.{Bool, true, false, not, cond, _&&_, _||_, true≢false}
 use mathlib.Core.List.{List, [], _∷_, _++_}
+use mathlib.Core.Logic.{_⊎_}
 use native.Mathlib.Omega.{arith}
 use native.Mathlib.Numerals.{add-one}
-use lib.Dec.{leb, ltb, eqb}
+use lib.Dec.{leb, ltb}
 use lib.ListN.{length, take, drop, length-take}
 use lib.Seq.{length-take-le}
 use borrow.Author.Tests.{lt-ltb, le-ltb, ltb-false, not-false, not-true}
@@ -18,11 +19,14 @@ use Rattle.numbers.specs.Promise.{Left1, Left2, Gives1, Gives2}
 use Rattle.numbers.specs.declared.answer.Answer.{Answer}
 use Rattle.numbers.specs.declared.answer.Rows.{Rows}
 use Rattle.numbers.specs.declared.sequence_number.SequenceNumber.{SequenceNumber}
+use Rattle.numbers.specs.Answers.{earlier, inTurn}
 use Rattle.numbers.proofs.Refused.{clear, is-refused, is-done, gives2}
+use Rattle.numbers.proofs.Answered.{answer-refused, answer-done, left-done, turn-done}
 use Rattle.numbers.proofs.Ranks.{in-range}
 use Rattle.number_sets.specs.declared.sequence_number_set.SequenceNumberSet.{SequenceNumberSet}
 use Rattle.number_sets.specs.Bits.{members}
 use Rattle.number_sets.specs.Calls.{sequenceSet}
+use Rattle.number_sets.proofs.Meaning.{members-few}
 use Rattle.rising.specs.Runs.{runOk, roomOf, inRoom, fromOn, before}
 use Rattle.rising.proofs.Meaning.{RunIs, run-is, in-room, room-is, room-ok, room-take, room-length, from-only, rising-only}
 use Rattle.rising.proofs.Changes.{between-room, only-le}
@@ -31,8 +35,9 @@ use Rattle.joined_runs.proofs.Meaning.{join-is}
 use Rattle.rtps_reader_proxy.specs.declared.proxy.ReaderProxy.{ReaderProxy}
 use Rattle.rtps_reader_proxy.specs.declared.acks.AckNacked.{AckNacked}
 use Rattle.rtps_reader_proxy.specs.Reader.{Reader, baseOf, isLate, isAhead, staying, wanted, ackedAfter, leftOut}
-use Rattle.rtps_reader_proxy.specs.Record.{headOk, unsentOk, gapsOk, gapFloor}
-use Rattle.rtps_reader_proxy.specs.Acks.{ackRows, ackNackedOf, ackLeaves, acked, byBoth, headAfter, runLeft, Stayable, Ackable, ackedWith}
+use Rattle.rtps_reader_proxy.specs.Record.{headOk, roomFor, unsentOk, gapsOk, gapFloor}
+use Rattle.rtps_reader_proxy.specs.Acks.{ackRows, ackFits, ackNackedOf, amongAnswer, ackNackedAmong, ackLeaves, acked, byBoth, headAfter, runLeft, Stayable, Ackable, ackedWith}
+use Rattle.rtps_reader_proxy.proofs.Parts.{room-for, smallest-fits, union-le}
 use Rattle.rtps_reader_proxy.proofs.UnsentCalls.{UnsentIs, unsent-is}
 use Rattle.rtps_reader_proxy.proofs.GapCalls.{GapsAre, gaps-are}
 
@@ -87,7 +92,7 @@ module _ (h : ReaderProxy) (unsent gaps : List ℕ) (set : SequenceNumberSet) (l
   held = take (h .«gap_count») gaps
 
   pub stayable : Stayable (h .«unsent_count») unsent last
-  stayable = record { run = and-right (eqb (length unsent) (h .«unsent_cap»)) (runOk 0 (h .«unsent_count») unsent) (and-right (headOk h) (eqb (length unsent) (h .«unsent_cap») && runOk 0 (h .«unsent_count») unsent) (k .unsent-ok)); top = k .top }
+  stayable = record { run = and-right (leb (length unsent) (h .«unsent_cap»)) (runOk 0 (h .«unsent_count») unsent) (and-right (headOk h) (leb (length unsent) (h .«unsent_cap») && runOk 0 (h .«unsent_count») unsent) (k .unsent-ok)); top = k .top }
 
   module _ (a base low c : ℕ) (v : List ℕ) (ea : a ≡ rankOf (h .«all_acked_before»)) (eb : base ≡ rankOf (set .base)) (el : low ≡ max a (max base 1))
       (s : Gives1 c v (runLeft (length (staying last base a (take (h .«unsent_count») unsent))) (length unsent) (staying last base a (take (h .«unsent_count») unsent)))) where
@@ -103,12 +108,15 @@ module _ (h : ReaderProxy) (unsent gaps : List ℕ) (set : SequenceNumberSet) (l
     run-kept : take c v ≡ staying last B A old
     run-kept = rw (s .result, s .first) (room-take (length unsent) (staying last base a old)) ∙ stays
 
-    long-kept : length v ≡ h .«unsent_cap»
-    long-kept = ap length (s .first) ∙ room-length (length unsent) (staying last base a old) (few (isLate a base)) ∙ us .long
+    stays-few : length (staying last base a old) ≤ length old
+    stays-few = few (isLate a base)
       where
-        few : (t : Bool) → length (cond t old (between (baseOf base) last old)) ≤ length unsent
-        few true = omega (arith, length-take (h .«unsent_count») unsent)
-        few false = omega (arith, only-le (λ n. leb (baseOf base) n && leb n last) old, length-take (h .«unsent_count») unsent)
+        few : (t : Bool) → length (cond t old (between (baseOf base) last old)) ≤ length old
+        few true = omega arith
+        few false = only-le (λ n. leb (baseOf base) n && leb n last) old
+
+    long-kept : length v ≡ length unsent
+    long-kept = ap length (s .first) ∙ room-length (length unsent) (staying last base a old) (omega (arith, stays-few, length-take (h .«unsent_count») unsent))
 
     module _ (total kept : ℕ) (u g : List ℕ) (r : AckNacked)
         (j : Gives1 total u (joinedIn set low last c v))
@@ -118,6 +126,22 @@ module _ (h : ReaderProxy) (unsent gaps : List ℕ) (set : SequenceNumberSet) (l
 
       all-is : union (between low last (members (sequenceSet set))) (take c v) ≡ wanted last B (members (sequenceSet set)) A old
       all-is = ap (λ (y : ℕ). union (between y last (members (sequenceSet set))) (take c v)) low-is ∙ ap (union (between (ackedAfter A B) last (members (sequenceSet set)))) run-kept
+
+      -- what is lent has room for all of it, or is the whole room
+      all-fits : smallest (length unsent) (wanted last B (members (sequenceSet set)) A old) ≡ smallest (h .«unsent_cap») (wanted last B (members (sequenceSet set)) A old)
+      all-fits =
+          smallest-fits (min (set .count) 256) (h .«unsent_cap») (h .«unsent_count») unsent (wanted last B (members (sequenceSet set)) A old)
+          (room-for (min (set .count) 256) (h .«unsent_cap») (h .«unsent_count») unsent (us .run .fits) (k .fits)) (us .long)
+          (omega (
+            arith,
+            k .bits,
+            ap length stays,
+            stays-few,
+            length-take (h .«unsent_count») unsent,
+            members-few (sequenceSet set),
+            only-le (λ n. leb (ackedAfter A B) n && leb n last) (members (sequenceSet set)),
+            union-le (between (ackedAfter A B) last (members (sequenceSet set))) (staying last B A old),
+          ))
 
       pub acknowledged-is : Gives2 r u g (ackLeaves set last h unsent gaps)
       acknowledged-is =
@@ -130,18 +154,20 @@ module _ (h : ReaderProxy) (unsent gaps : List ℕ) (set : SequenceNumberSet) (l
           let ck : kept ≡ length (only (leb (ackedAfter A B)) held) = y .0 ∙ ap length gk in
           record {
             result = er ∙ rw (cu, lo, ck, low-is);
-            first = t .1 ∙ ap (λ (z : ℕ). roomOf z (smallest z (union (between low last (members (sequenceSet set))) (take c v)))) long-kept ∙ ap (λ (z : List ℕ). roomOf (h .«unsent_cap») (smallest (h .«unsent_cap») z)) all-is;
-            second = y .1 ∙ ap (λ (z : ℕ). roomOf z (only (leb low) held)) (gs .long) ∙ ap (roomOf 256) gk;
+            first =
+                t .1 ∙ ap (λ (z : ℕ). roomOf z (smallest z (union (between low last (members (sequenceSet set))) (take c v)))) long-kept
+                ∙ ap (λ (z : List ℕ). roomOf (length unsent) (smallest (length unsent) z)) all-is ∙ ap (roomOf (length unsent)) all-fits;
+            second = y .1 ∙ ap (roomOf (length gaps)) gk;
           }
 
 -- THE WHOLE CALL
 
 -- its rows, by what the code found
-pub ack-rows : (set : SequenceNumberSet) (last : SequenceNumber) (h : ReaderProxy) (unsent gaps : List ℕ) (a : Answer) (none : Rows) (u g w n : Bool) (end b m : ℕ)
-    → none ≡ rowsOf [] → u ≡ unsentOk h unsent → g ≡ gapsOk h gaps → w ≡ inRange last topNumber → n ≡ negative (set .base) → end ≡ rankOf last → b ≡ rankOf (set .base) → m ≡ max b 1
+pub ack-rows : (set : SequenceNumberSet) (last : SequenceNumber) (h : ReaderProxy) (unsent gaps : List ℕ) (a : Answer) (none : Rows) (x : ℕ) (f u g w n : Bool) (end b m : ℕ)
+    → none ≡ rowsOf [] → x ≡ min (set .count) 256 → f ≡ roomFor x (h .«unsent_cap») (h .«unsent_count») unsent → u ≡ unsentOk h unsent → g ≡ gapsOk h gaps → w ≡ inRange last topNumber → n ≡ negative (set .base) → end ≡ rankOf last → b ≡ rankOf (set .base) → m ≡ max b 1
     → a ≡ answerOf (record {
       limit = none .limit;
-      incoherent = not (u && g);
+      incoherent = not (f && (u && g));
       bits = ltb 256 (set .count);
       range = n || not w;
       reader = none .reader;
@@ -156,7 +182,7 @@ pub ack-rows : (set : SequenceNumberSet) (last : SequenceNumber) (h : ReaderProx
       nothing = none .nothing;
     })
     → a ≡ answerOf (ackRows h unsent gaps set last)
-ack-rows set last h unsent gaps a none u g w n end b m e0 eu eg ew en ee eb em q = q ∙ rw (e0, eu, eg, ew, en, em, ee, eb, add-one)
+ack-rows set last h unsent gaps a none x f u g w n end b m e0 ex ef eu eg ew en ee eb em q = q ∙ rw (e0, ef, ex, eu, eg, ew, en, em, ee, eb, add-one)
 
 module _ (set : SequenceNumberSet) (last : SequenceNumber) (h : ReaderProxy) (unsent gaps : List ℕ) (a : Answer) (q : a ≡ answerOf (ackRows h unsent gaps set last)) where
   abbrev not-acked : Answer → Left2 AckNacked (List ℕ) (List ℕ)
@@ -171,9 +197,11 @@ module _ (set : SequenceNumberSet) (last : SequenceNumber) (h : ReaderProxy) (un
     pub ackable : (end : ℕ) → end ≡ rankOf last → Ackable h unsent gaps set end
     ackable end e =
         let c = clear (ackRows h unsent gaps set last) a q z in
-        let both = not-false (unsentOk h unsent && gapsOk h gaps) (c .incoherent) in
+        let all = not-false (ackFits h unsent set && (unsentOk h unsent && gapsOk h gaps)) (c .incoherent) in
+        let both = and-right (ackFits h unsent set) (unsentOk h unsent && gapsOk h gaps) all in
         let rg = or-none (negative (set .base)) (not (inRange last topNumber)) (c .range) in
         record {
+          fits = and-left (ackFits h unsent set) (unsentOk h unsent && gapsOk h gaps) all;
           unsent-ok = and-left (unsentOk h unsent) (gapsOk h gaps) both;
           gaps-ok = and-right (unsentOk h unsent) (gapsOk h gaps) both;
           bits = ltb-false 256 (set .count) (c .bits);
@@ -189,3 +217,25 @@ module _ (set : SequenceNumberSet) (last : SequenceNumber) (h : ReaderProxy) (un
     pub ack-done : (end : ℕ) (r : AckNacked) (u g : List ℕ) → end ≡ rankOf last → Gives2 r u g (ackLeaves set end h unsent gaps) → Gives2 r u g (ackNackedOf set last h unsent gaps)
     ack-done end r u g e p =
         subst (Gives2 r u g) (ap (λ (x : ℕ). ackLeaves set x h unsent gaps) e ∙ is-done (ackRows h unsent gaps set last) a q not-acked (ackLeaves set (rankOf last) h unsent gaps) z) p
+
+-- as one of a step's calls
+module _ (beside after : Answer) (set : SequenceNumberSet) (last : SequenceNumber) (h : ReaderProxy) (unsent gaps : List ℕ) (own : Answer) (q : own ≡ answerOf (ackRows h unsent gaps set last))
+    (all : Answer) (qa : all ≡ earlier own beside) (a : Answer) (qt : a ≡ inTurn all after) where
+  abbrev not-taken : Answer → Left2 AckNacked (List ℕ) (List ℕ)
+  not-taken x = record { result = record { answer = x; «left_out» = 0; proxy = h }; first = unsent; second = gaps }
+
+  is-among : a ≡ amongAnswer beside after set last h unsent gaps
+  is-among = qt ∙ ap (λ (x : Answer). inTurn x after) (qa ∙ ap (λ (x : Answer). earlier x beside) q)
+
+  pub among-refused : (a .number ≡ 0 → ⊥) → Gives2 (record { answer = a; «left_out» = 0; proxy = h }) unsent gaps (ackNackedAmong beside after set last h unsent gaps)
+  among-refused z =
+      gives2 (record { answer = a; «left_out» = 0; proxy = h }) unsent gaps (not-taken a) (ackNackedAmong beside after set last h unsent gaps)
+      (answer-refused (amongAnswer beside after set last h unsent gaps) a is-among not-taken (ackLeaves set (rankOf last) h unsent gaps) z) refl refl refl
+
+  module _ (z : a .number ≡ 0) where
+    pub own-done : own .number ≡ 0
+    own-done = left-done own beside (ackRows h unsent gaps set last) q (sym (ap (λ (x : Answer). x .number) qa) ∙ turn-done all after (sym (ap (λ (x : Answer). x .number) qt) ∙ z) .0)
+
+    pub among-done : (end : ℕ) (r : AckNacked) (u g : List ℕ) → end ≡ rankOf last → Gives2 r u g (ackLeaves set end h unsent gaps) → Gives2 r u g (ackNackedAmong beside after set last h unsent gaps)
+    among-done end r u g e p =
+        subst (Gives2 r u g) (ap (λ (x : ℕ). ackLeaves set x h unsent gaps) e ∙ answer-done (amongAnswer beside after set last h unsent gaps) a is-among not-taken (ackLeaves set (rankOf last) h unsent gaps) z) p

@@ -43,9 +43,10 @@ use Rattle.rtps_reader_proxy.specs.declared.proxy.Changed.{Changed}
 use Rattle.rtps_reader_proxy.specs.declared.fragments.NextFragRequested.{NextFragRequested}
 use Rattle.rtps_reader_proxy.specs.declared.fragments.Told.{Told}
 use Rattle.rtps_reader_proxy.specs.Reader.{Reader, needsSlot, fragsRequested, fragSent}
-use Rattle.rtps_reader_proxy.specs.Record.{headOk, changed}
+use Rattle.rtps_reader_proxy.specs.Record.{headOk, roomFor, changed}
 use Rattle.rtps_reader_proxy.specs.Fragments.{fragsOk, countFrags, entriesIn, byFrags, fragsBy, cannotAsk, noSlot, fragsRequestedOf, nextFragOf, nextPiece, repairOf}
 use Rattle.rtps_reader_proxy.proofs.GapCalls.{above}
+use Rattle.rtps_reader_proxy.proofs.Parts.{room-for}
 
 -- the samples of the entries are those in the room
 pub samples-are : (c : ℕ) (S W : List ℕ) → samplesOf (entriesOf c S W) ≡ take c S
@@ -93,7 +94,7 @@ can-ask n set e =
     above-0 : (k : ℕ) → (k ≡ 0 → ⊥) → 1 ≤ k
     above-0 k f = omega arith
 
--- a request that finds a slot leaves at most 16
+-- a request that finds a slot leaves no more than what is lent has room for
 module _ (c : ℕ) (S W : List ℕ) (k : coherentRooms c S W ≡ true) where
   abbrev held : List Entry
   held = entriesOf c S W
@@ -102,41 +103,44 @@ module _ (c : ℕ) (S W : List ℕ) (k : coherentRooms c S W ≡ true) where
   known = is-coherent c S W k
 
   fitting : fits c S W ≡ true
-  fitting = fit c S W (omega (arith, known .small, known .lengthS)) (omega (arith, known .small, known .lengthW))
+  fitting = fit c S W (known .small) (omega (arith, known .small, known .lengthW))
 
-  count-is : length (samplesOf held) ≡ c
-  count-is = ap length (samples-are c S W) ∙ length-take-le c S (omega (arith, known .small, known .lengthS))
+  pub count-is : length (samplesOf held) ≡ c
+  count-is = ap length (samples-are c S W) ∙ length-take-le c S (known .small)
 
-  slot-left : (n : ℕ) (ms : List ℕ) → From 1 ms → Within ms 64 → (leb 16 c && not (has (samplesOf held) n)) ≡ false → length (askT n ms (tableOf c S W)) ≤ 16
-  slot-left n ms f w e = go (decide (leb 16 c))
+  slot-left : (n : ℕ) (ms : List ℕ) → From 1 ms → Within ms 64 → roomFor 1 16 c S ≡ true → (leb 16 c && not (has (samplesOf held) n)) ≡ false → length (askT n ms (tableOf c S W)) ≤ length S
+  slot-left n ms f w room e = go (room-for 1 16 c S (known .small) room) (decide (leb 16 c))
     where
       long : length (askT n ms (tableOf c S W)) ≡ length (insert n (samplesOf held))
       long =
           sym (samples-length (askT n ms (tableOf c S W)))
           ∙ ap length (sym (view-samples (askT n ms (tableOf c S W))) ∙ ap samplesOf (ask-means n ms f w (tableOf c S W) (coherent-fit c S W known .full)) ∙ asked-samples n ms held)
 
-      go : (leb 16 c ≡ true) ⊎ (leb 16 c ≡ false) → length (askT n ms (tableOf c S W)) ≤ 16
-      go (inr t) = omega (arith, long, insert-le n (samplesOf held), count-is, leb-false 16 c t)
-      go (inl t) =
+      go : (c + 1 ≤ length S) ⊎ (16 ≤ length S) → (leb 16 c ≡ true) ⊎ (leb 16 c ≡ false) → length (askT n ms (tableOf c S W)) ≤ length S
+      go (inl y) t = omega (arith, long, insert-le n (samplesOf held), count-is)
+      go (inr y) (inr t) = omega (arith, long, insert-le n (samplesOf held), count-is, leb-false 16 c t)
+      go (inr y) (inl t) =
           let y : has (samplesOf held) n ≡ true = not-false (has (samplesOf held) n) (ap (λ (b : Bool). b && not (has (samplesOf held) n)) (sym t) ∙ e) in
           let g = rises-are 0 (samplesOf held) (entries-valid c S W k .rises) in
           omega (arith, long, ap length (insert-same n 1 (samplesOf held) (g .from) y), count-is, known .small)
 
-  -- what a request leaves passes the check, and holds what was held and asked for
-  pub request-again : (n : ℕ) (ms : List ℕ) → From 1 ms → Within ms 64 → 0 < n → n ≤ topNumber → (leb 16 c && (not (empty ms) && not (has (samplesOf held) n))) ≡ false
+  -- what a request leaves passes the check, holds what was held and asked for, and is as long
+  pub request-again : (n : ℕ) (ms : List ℕ) → From 1 ms → Within ms 64 → 0 < n → n ≤ topNumber → roomFor 1 16 c S ≡ true → (leb 16 c && (not (empty ms) && not (has (samplesOf held) n))) ≡ false
       → (coherentRooms (askedIn n ms c S W .result) (askedIn n ms c S W .first) (askedIn n ms c S W .second) ≡ true)
       × (entriesOf (askedIn n ms c S W .result) (askedIn n ms c S W .first) (askedIn n ms c S W .second) ≡ requested n ms held)
-  request-again n ms f w lo hi e = go (decide (empty ms))
+      × (length (askedIn n ms c S W .first) ≡ length S)
+  request-again n ms f w lo hi room e = go (decide (empty ms))
     where
       go : (empty ms ≡ true) ⊎ (empty ms ≡ false)
           → (coherentRooms (askedIn n ms c S W .result) (askedIn n ms c S W .first) (askedIn n ms c S W .second) ≡ true)
           × (entriesOf (askedIn n ms c S W .result) (askedIn n ms c S W .first) (askedIn n ms c S W .second) ≡ requested n ms held)
-      go (inl t) = rw (fitting, t) (k, refl)
-      go (inr t) = asked-again c S W n ms k f w lo hi (slot-left n ms f w (ap (λ (b : Bool). leb 16 c && (not b && not (has (samplesOf held) n))) (sym t) ∙ e))
+          × (length (askedIn n ms c S W .first) ≡ length S)
+      go (inl t) = rw (fitting, t) (k, refl, refl)
+      go (inr t) = asked-again c S W n ms k f w lo hi (slot-left n ms f w room (ap (λ (b : Bool). leb 16 c && (not b && not (has (samplesOf held) n))) (sym t) ∙ e))
 
-module _ (h : ReaderProxy) (samples words : List ℕ) (rows : List Row) (a : Answer) (q : a ≡ answerOf (rowsOf (row 1 (not (fragsOk h samples words)) ∷ rows))) where
+module _ (h : ReaderProxy) (samples words : List ℕ) (fits : Bool) (rows : List Row) (a : Answer) (q : a ≡ answerOf (rowsOf (row 1 (not (fits && fragsOk h samples words)) ∷ rows))) where
   abbrev frag-rows : Rows
-  frag-rows = rowsOf (row 1 (not (fragsOk h samples words)) ∷ rows)
+  frag-rows = rowsOf (row 1 (not (fits && fragsOk h samples words)) ∷ rows)
 
   abbrev not-changed : Answer → Left2 Changed (List ℕ) (List ℕ)
   not-changed x = record { result = record { answer = x; proxy = h }; first = samples; second = words }
@@ -145,68 +149,75 @@ module _ (h : ReaderProxy) (samples words : List ℕ) (rows : List Row) (a : Ans
   is-changed f =
       record {
         result = record { answer = done; proxy = countFrags (length (f (byFrags h samples words) .frags)) h };
-        first = samplesRoom (f (byFrags h samples words) .frags);
-        second = wordsRoom (f (byFrags h samples words) .frags);
+        first = samplesRoom (length samples) (f (byFrags h samples words) .frags);
+        second = wordsRoom (length samples) (f (byFrags h samples words) .frags);
       }
 
-  pub frags-refused : (f : Reader → Reader) → (a .number ≡ 0 → ⊥) → Gives2 (record { answer = a; proxy = h }) samples words (fragsBy rows f h samples words)
-  frags-refused f n = gives2 (record { answer = a; proxy = h }) samples words (not-changed a) (fragsBy rows f h samples words) (is-refused frag-rows a q not-changed (is-changed f) n) refl refl refl
+  pub frags-refused : (f : Reader → Reader) → (a .number ≡ 0 → ⊥) → Gives2 (record { answer = a; proxy = h }) samples words (fragsBy fits rows f h samples words)
+  frags-refused f n = gives2 (record { answer = a; proxy = h }) samples words (not-changed a) (fragsBy fits rows f h samples words) (is-refused frag-rows a q not-changed (is-changed f) n) refl refl refl
 
   module _ (z : a .number ≡ 0) where
-    pub frags-known : coherentRooms (h .«frag_count») samples words ≡ true
-    frags-known = and-right (headOk h) (coherentRooms (h .«frag_count») samples words) (not-false (fragsOk h samples words) (clear frag-rows a q z .incoherent))
+    frags-both : (fits && fragsOk h samples words) ≡ true
+    frags-both = not-false (fits && fragsOk h samples words) (clear frag-rows a q z .incoherent)
 
-    -- rooms that pass the check and hold what the reader's step f leaves
-    frags-done : (f : Reader → Reader) (n : ℕ) (S W : List ℕ) (r : Changed) → r ≡ changed a (countFrags n h) → Words W → coherentRooms n S W ≡ true → entriesOf n S W ≡ f (byFrags h samples words) .frags
-        → Gives2 r S W (fragsBy rows f h samples words)
-    frags-done f n S W r e w k v =
+    pub frags-known : coherentRooms (h .«frag_count») samples words ≡ true
+    frags-known = and-right (headOk h) (coherentRooms (h .«frag_count») samples words) (and-right fits (fragsOk h samples words) frags-both)
+
+    -- rooms as long as those lent that pass the check and hold what the reader's step f leaves
+    frags-done : (f : Reader → Reader) (n : ℕ) (S W : List ℕ) (r : Changed) → r ≡ changed a (countFrags n h) → Words W → length S ≡ length samples → coherentRooms n S W ≡ true
+        → entriesOf n S W ≡ f (byFrags h samples words) .frags → Gives2 r S W (fragsBy fits rows f h samples words)
+    frags-done f n S W r e w l k v =
         let y = rooms-are n S W k w in
         let c : n ≡ length (f (byFrags h samples words) .frags) = y .0 ∙ ap length v in
-        gives2 r S W (is-changed f) (fragsBy rows f h samples words) (is-done frag-rows a q not-changed (is-changed f) z)
-        (e ∙ rw (done-is a z, c)) (y .1 ∙ ap samplesRoom v) (y .2 ∙ ap wordsRoom v)
+        gives2 r S W (is-changed f) (fragsBy fits rows f h samples words) (is-done frag-rows a q not-changed (is-changed f) z)
+        (e ∙ rw (done-is a z, c)) (y .1 ∙ ap (samplesRoom (length S)) v ∙ ap (λ (m : ℕ). samplesRoom m (f (byFrags h samples words) .frags)) l)
+        (y .2 ∙ ap (wordsRoom (length S)) v ∙ ap (λ (m : ℕ). wordsRoom m (f (byFrags h samples words) .frags)) l)
 
     pub sent-done : (m f n : ℕ) (S W : List ℕ) (r : Changed) → r ≡ changed a (countFrags n h) → Words W → Gives2 n S W (markedIn m f (h .«frag_count») samples words)
-        → Gives2 r S W (fragsBy rows (fragSent m f) h samples words)
+        → Gives2 r S W (fragsBy fits rows (fragSent m f) h samples words)
     sent-done m f n S W r e w g =
         let y = marked-again (h .«frag_count») samples words m f frags-known in
-        frags-done (fragSent m f) n S W r e w (rw (g .result, g .first, g .second) (y .0)) (rw (g .result, g .first, g .second) (y .1))
+        frags-done (fragSent m f) n S W r e w (ap length (g .first) ∙ y .2) (rw (g .result, g .first, g .second) (y .0)) (rw (g .result, g .first, g .second) (y .1))
 
-    pub requested-done : (m : SequenceNumber) (set : FragmentNumberSet) (n : ℕ) (S W : List ℕ) (r : Changed) → cannotAsk m set ≡ false → noSlot (rankOf m) set h samples words ≡ false
+    pub requested-done : fits ≡ roomFor 1 16 (h .«frag_count») samples → (m : SequenceNumber) (set : FragmentNumberSet) (n : ℕ) (S W : List ℕ) (r : Changed) → cannotAsk m set ≡ false → noSlot (rankOf m) set h samples words ≡ false
         → r ≡ changed a (countFrags n h) → Words W → Gives2 n S W (askedIn (rankOf m) (askable set) (h .«frag_count») samples words)
-        → Gives2 r S W (fragsBy rows (fragsRequested (rankOf m) (members (fragmentSet set))) h samples words)
-    requested-done m set n S W r ca ns e w g =
+        → Gives2 r S W (fragsBy fits rows (fragsRequested (rankOf m) (members (fragmentSet set))) h samples words)
+    requested-done ef m set n S W r ca ns e w g =
         let k = can-ask m set ca in
         let y =
-        request-again (h .«frag_count») samples words frags-known (rankOf m) (askable set) (askable-rises set) (askable-within set) (k .low) (k .high)
+        request-again (h .«frag_count») samples words frags-known (rankOf m) (askable set) (askable-rises set) (askable-within set) (k .low) (k .high) (sym ef ∙ and-left fits (fragsOk h samples words) frags-both)
         (ap (λ (l : List ℕ). leb 16 (h .«frag_count») && needsSlot (rankOf m) l (byFrags h samples words)) (k .all) ∙ ns) in
-        frags-done (fragsRequested (rankOf m) (members (fragmentSet set))) n S W r e w (rw (g .result, g .first, g .second) (y .0))
+        frags-done (fragsRequested (rankOf m) (members (fragmentSet set))) n S W r e w (ap length (g .first) ∙ y .2) (rw (g .result, g .first, g .second) (y .0))
         (rw (g .result, g .first, g .second) (y .1) ∙ ap (λ (l : List ℕ). requested (rankOf m) l (entriesIn h samples words)) (k .all))
 
 -- a request
 module _ (n : SequenceNumber) (set : FragmentNumberSet) (h : ReaderProxy) (samples words : List ℕ) (a : Answer) where
-  abbrev request-rows : Bool → Bool → List Row
-  request-rows range full = row 3 (ltb 256 (set .count)) ∷ row 2 range ∷ row 10 full ∷ []
+  abbrev room : Bool
+  room = roomFor 1 16 (h .«frag_count») samples
+
+  abbrev request-rows : Bool → Bool → Bool → List Row
+  request-rows fits range full = row 1 (not (fits && fragsOk h samples words)) ∷ row 3 (ltb 256 (set .count)) ∷ row 2 range ∷ row 10 full ∷ []
 
   -- its rows, by what the code found
-  pub rows-found : (k : ℕ) (range full : Bool) → range ≡ cannotAsk n set → k ≡ rankOf n → full ≡ noSlot k set h samples words
-      → a ≡ answerOf (rowsOf (row 1 (not (fragsOk h samples words)) ∷ request-rows range full))
-      → a ≡ answerOf (rowsOf (row 1 (not (fragsOk h samples words)) ∷ request-rows (cannotAsk n set) (noSlot (rankOf n) set h samples words)))
-  rows-found k range full er ek ef q =
-      q ∙ ap (λ (t : Bool). answerOf (rowsOf (row 1 (not (fragsOk h samples words)) ∷ request-rows t full))) er
-      ∙ ap (λ (t : Bool). answerOf (rowsOf (row 1 (not (fragsOk h samples words)) ∷ request-rows (cannotAsk n set) t))) (ef ∙ ap (λ (x : ℕ). noSlot x set h samples words) ek)
+  pub rows-found : (k : ℕ) (fits range full : Bool) → fits ≡ room → range ≡ cannotAsk n set → k ≡ rankOf n → full ≡ noSlot k set h samples words → a ≡ answerOf (rowsOf (request-rows fits range full))
+      → a ≡ answerOf (rowsOf (request-rows room (cannotAsk n set) (noSlot (rankOf n) set h samples words)))
+  rows-found k fits range full ew er ek ef q =
+      q ∙ ap (λ (t : Bool). answerOf (rowsOf (request-rows t range full))) ew
+      ∙ ap (λ (t : Bool). answerOf (rowsOf (request-rows room t full))) er
+      ∙ ap (λ (t : Bool). answerOf (rowsOf (request-rows room (cannotAsk n set) t))) (ef ∙ ap (λ (x : ℕ). noSlot x set h samples words) ek)
 
-  module _ (q : a ≡ answerOf (rowsOf (row 1 (not (fragsOk h samples words)) ∷ request-rows (cannotAsk n set) (noSlot (rankOf n) set h samples words)))) where
+  module _ (q : a ≡ answerOf (rowsOf (request-rows room (cannotAsk n set) (noSlot (rankOf n) set h samples words)))) where
     abbrev these : List Row
-    these = request-rows (cannotAsk n set) (noSlot (rankOf n) set h samples words)
+    these = row 3 (ltb 256 (set .count)) ∷ row 2 (cannotAsk n set) ∷ row 10 (noSlot (rankOf n) set h samples words) ∷ []
 
     pub request-refused : (a .number ≡ 0 → ⊥) → Gives2 (record { answer = a; proxy = h }) samples words (fragsRequestedOf n set h samples words)
-    request-refused z = frags-refused h samples words these a q (fragsRequested (rankOf n) (members (fragmentSet set))) z
+    request-refused z = frags-refused h samples words room these a q (fragsRequested (rankOf n) (members (fragmentSet set))) z
 
     pub request-done : a .number ≡ 0 → (k c : ℕ) (S W : List ℕ) (r : Changed) → k ≡ rankOf n → r ≡ changed a (countFrags c h) → Words W
         → Gives2 c S W (askedIn k (askable set) (h .«frag_count») samples words) → Gives2 r S W (fragsRequestedOf n set h samples words)
     request-done z k c S W r ek e w g =
-        let free = clear (rowsOf (row 1 (not (fragsOk h samples words)) ∷ these)) a q z in
-        requested-done h samples words these a q z n set c S W r (free .range) (free .frags-full) e w
+        let free = clear (rowsOf (request-rows room (cannotAsk n set) (noSlot (rankOf n) set h samples words))) a q z in
+        requested-done h samples words room these a q z refl n set c S W r (free .range) (free .frags-full) e w
         (subst (λ (x : ℕ). Gives2 c S W (askedIn x (askable set) (h .«frag_count») samples words)) ek g)
 
 -- the answer of a question for the next fragment
@@ -251,7 +262,7 @@ module _ (h : ReaderProxy) (samples words : List ℕ) (a : Answer) (q : a ≡ an
 
   pub repair-done : a .number ≡ 0 → _≡_ {A = Told} (record { answer = a; yes = not (eqb (h .«frag_count») 0) }) (repairOf h samples words)
   repair-done z =
-      let c = count-is (h .«frag_count») samples words (frags-known h samples words [] a q z) in
+      let c = count-is (h .«frag_count») samples words (frags-known h samples words true [] a q z) in
       let y : not (eqb (h .«frag_count») 0) ≡ some (entriesIn h samples words) = ap (λ (n : ℕ). not (eqb n 0)) (sym c) ∙ some-is (entriesIn h samples words) in
       rw (done-is a z, y) (is-done (rowsOf (row 1 (not (fragsOk h samples words)) ∷ [])) a q not-told is-told z)
     where

@@ -1,12 +1,13 @@
 -- What `handle_ack_nack` answers and leaves. It is lent the unsent room and the gap room. Assumes nothing.
-use Prim.Native.Nat.{ℕ, suc, _-_, _≤_, max}
+use Prim.Native.Nat.{ℕ, suc, _-_, _≤_, min, max}
 use mathlib.Core.Path.{_≡_}
 use mathlib.Core.Bool.{Bool, true, false, not, cond, _&&_, _||_}
 use mathlib.Core.List.{List, [], _∷_}
 use lib.Dec.{ltb}
 use lib.ListN.{length, take}
 use Rattle.numbers.specs.Number.{topNumber, rankOf, inRange, negative, numberAt}
-use Rattle.numbers.specs.Refusals.{row, rowsOf, done, unless}
+use Rattle.numbers.specs.Refusals.{row, rowsOf, answerOf, done, unless}
+use Rattle.numbers.specs.Answers.{earlier, inTurn, answered}
 use Rattle.numbers.specs.Promise.{Left1, Left2}
 use Rattle.numbers.specs.declared.answer.Answer.{Answer}
 use Rattle.numbers.specs.declared.answer.Rows.{Rows}
@@ -18,7 +19,7 @@ use Rattle.rising.specs.Runs.{runOk, roomOf}
 use Rattle.rtps_reader_proxy.specs.declared.proxy.ReaderProxy.{ReaderProxy}
 use Rattle.rtps_reader_proxy.specs.declared.acks.AckNacked.{AckNacked}
 use Rattle.rtps_reader_proxy.specs.Reader.{Reader, isAhead, acknowledge, leftOut, staying, wanted, ackedAfter, baseOf}
-use Rattle.rtps_reader_proxy.specs.Record.{unsentOk, gapsOk, seen, unsentRoom, gapRoom}
+use Rattle.rtps_reader_proxy.specs.Record.{roomFor, unsentOk, gapsOk, seen}
 
 -- what refuses an acknowledgement with the set z: by whether all is coherent, whether a number is out of its range, and whether the reader is unknown,
 -- where it is named; "b > last+1: answer 12"
@@ -32,10 +33,14 @@ ackRowsOf coherent z range reader last =
     ∷ row 12 (isAhead last (z .base))
     ∷ [])
 
+-- what is lent of the unsent room has room for as many numbers as the set has bits
+abbrev pub ackFits : ReaderProxy → List ℕ → SequenceNumberSet → Bool
+ackFits h unsent set = roomFor (min (set .count) 256) (h .«unsent_cap») (h .«unsent_count») unsent
+
 -- "A negative base is refused with 2"; `last` is "0 to 2^63−2". This call has the record itself, so no reader is unknown
 abbrev pub ackRows : ReaderProxy → List ℕ → List ℕ → SequenceNumberSet → SequenceNumber → Rows
 ackRows h unsent gaps set last =
-    ackRowsOf (unsentOk h unsent && gapsOk h gaps) (sequenceSet set) (negative (set .base) || not (inRange last topNumber)) false (rankOf last)
+    ackRowsOf (ackFits h unsent set && (unsentOk h unsent && gapsOk h gaps)) (sequenceSet set) (negative (set .base) || not (inRange last topNumber)) false (rankOf last)
 
 -- the head of a reader whose fragments aren't touched
 abbrev pub headAfter : Reader → ReaderProxy → ReaderProxy
@@ -65,13 +70,24 @@ ackLeaves set last h unsent gaps =
         «left_out» = leftOut last (rankOf (set .base)) (members (sequenceSet set)) (byBoth h unsent gaps);
         proxy = headAfter (acked set last h unsent gaps) h;
       };
-      first = unsentRoom (acked set last h unsent gaps);
-      second = gapRoom (acked set last h unsent gaps);
+      first = roomOf (length unsent) (acked set last h unsent gaps .unsent);
+      second = roomOf (length gaps) (acked set last h unsent gaps .gaps);
     }
 
 abbrev pub ackNackedOf : SequenceNumberSet → SequenceNumber → ReaderProxy → List ℕ → List ℕ → Left2 AckNacked (List ℕ) (List ℕ)
 ackNackedOf set last h unsent gaps =
     unless (ackRows h unsent gaps set last)
+    (λ a. record { result = record { answer = a; «left_out» = 0; proxy = h }; first = unsent; second = gaps })
+    (ackLeaves set (rankOf last) h unsent gaps)
+
+-- the same as one of a step's calls: `beside` is what those are answered that are asked with it, in the table's order, `after` what the one is answered
+-- that comes after them. It is taken where all of them are done
+abbrev pub amongAnswer : Answer → Answer → SequenceNumberSet → SequenceNumber → ReaderProxy → List ℕ → List ℕ → Answer
+amongAnswer beside after set last h unsent gaps = inTurn (earlier (answerOf (ackRows h unsent gaps set last)) beside) after
+
+abbrev pub ackNackedAmong : Answer → Answer → SequenceNumberSet → SequenceNumber → ReaderProxy → List ℕ → List ℕ → Left2 AckNacked (List ℕ) (List ℕ)
+ackNackedAmong beside after set last h unsent gaps =
+    answered (amongAnswer beside after set last h unsent gaps)
     (λ a. record { result = record { answer = a; «left_out» = 0; proxy = h }; first = unsent; second = gaps })
     (ackLeaves set (rankOf last) h unsent gaps)
 
@@ -87,6 +103,7 @@ pub record Stayable (count : ℕ) (room : List ℕ) (last : ℕ) : Type 0 where
 
 -- an acknowledgement that isn't refused
 pub record Ackable (h : ReaderProxy) (unsent gaps : List ℕ) (set : SequenceNumberSet) (last : ℕ) : Type 0 where
+  pub fits : ackFits h unsent set ≡ true
   pub unsent-ok : unsentOk h unsent ≡ true
   pub gaps-ok : gapsOk h gaps ≡ true
   pub bits : set .count ≤ 256

@@ -1,6 +1,6 @@
 -- What the calls on the requested fragments answer and leave. They are lent the room of samples and the room of words. Assumes nothing.
 use Prim.Native.Nat.{ℕ}
-use mathlib.Core.Bool.{Bool, false, not, _&&_, _||_}
+use mathlib.Core.Bool.{Bool, true, false, not, _&&_, _||_}
 use mathlib.Core.List.{List, [], _∷_}
 use lib.Dec.{leb, ltb, eqb}
 use lib.ListN.{length}
@@ -24,7 +24,7 @@ use Rattle.rtps_reader_proxy.specs.declared.proxy.Changed.{Changed}
 use Rattle.rtps_reader_proxy.specs.declared.fragments.NextFragRequested.{NextFragRequested}
 use Rattle.rtps_reader_proxy.specs.declared.fragments.Told.{Told}
 use Rattle.rtps_reader_proxy.specs.Reader.{Reader, needsSlot, fragsRequested, fragSent}
-use Rattle.rtps_reader_proxy.specs.Record.{headOk, seen}
+use Rattle.rtps_reader_proxy.specs.Record.{headOk, roomFor, seen}
 
 -- "fragment samples rise strictly and are valid sample numbers .. each fragment entry holds a bit, and unused room is zero"
 abbrev pub fragsOk : ReaderProxy → List ℕ → List ℕ → Bool
@@ -49,15 +49,15 @@ entriesIn h samples words = entriesOf (h .«frag_count») samples words
 abbrev pub byFrags : ReaderProxy → List ℕ → List ℕ → Reader
 byFrags h samples words = seen h [] [] (entriesIn h samples words)
 
--- a step f of the reader that changes its requested fragments, unless a row holds
-abbrev pub fragsBy : List Row → (Reader → Reader) → ReaderProxy → List ℕ → List ℕ → Left2 Changed (List ℕ) (List ℕ)
-fragsBy rows f h samples words =
-    unless (rowsOf (row 1 (not (fragsOk h samples words)) ∷ rows))
+-- a step f of the reader that changes its requested fragments, unless a row holds; `fits`: what is lent has room for what joins
+abbrev pub fragsBy : Bool → List Row → (Reader → Reader) → ReaderProxy → List ℕ → List ℕ → Left2 Changed (List ℕ) (List ℕ)
+fragsBy fits rows f h samples words =
+    unless (rowsOf (row 1 (not (fits && fragsOk h samples words)) ∷ rows))
     (λ a. record { result = record { answer = a; proxy = h }; first = samples; second = words })
     (record {
       result = record { answer = done; proxy = countFrags (length (f (byFrags h samples words) .frags)) h };
-      first = samplesRoom (f (byFrags h samples words) .frags);
-      second = wordsRoom (f (byFrags h samples words) .frags);
+      first = samplesRoom (length samples) (f (byFrags h samples words) .frags);
+      second = wordsRoom (length samples) (f (byFrags h samples words) .frags);
     })
 
 -- "A sample number outside 1 to 2^63−2, base 0, or any member above 4,096 refuses the whole request with 2"
@@ -80,11 +80,11 @@ requestRows n z held r = row 3 (ltb 256 (z .count)) ∷ row 2 (outOfRange n z) �
 
 abbrev pub fragsRequestedOf : SequenceNumber → FragmentNumberSet → ReaderProxy → List ℕ → List ℕ → Left2 Changed (List ℕ) (List ℕ)
 fragsRequestedOf n set h samples words =
-    fragsBy (requestRows (rankOf n) (fragmentSet set) (h .«frag_count») (byFrags h samples words)) (fragsRequested (rankOf n) (members (fragmentSet set))) h samples words
+    fragsBy (roomFor 1 16 (h .«frag_count») samples) (requestRows (rankOf n) (fragmentSet set) (h .«frag_count») (byFrags h samples words)) (fragsRequested (rankOf n) (members (fragmentSet set))) h samples words
 
 -- "not requested, whatever its number: nothing changes, answer 0"
 abbrev pub fragSentOf : SequenceNumber → FragmentNumber → ReaderProxy → List ℕ → List ℕ → Left2 Changed (List ℕ) (List ℕ)
-fragSentOf n f = fragsBy [] (fragSent (rankOf n) (f .0))
+fragSentOf n f = fragsBy true [] (fragSent (rankOf n) (f .0))
 
 -- the answer of a question for the next fragment that found f of sample n, unless a row holds
 abbrev pub nextPiece : Rows → ℕ → ℕ → NextFragRequested

@@ -4,13 +4,17 @@ ghost use lib.ListN.{length, take};
 ghost use Rattle.numbers.specs.Promise.{Gives1, Gives2};
 ghost use Rattle.numbers.specs.Refusals.{answerOf};
 ghost use Rattle.rtps_reader_proxy.specs.Reader.{staying};
-ghost use Rattle.rtps_reader_proxy.specs.Acks.{ackNackedOf, ackRows, ackLeaves, ackedWith, Ackable, runLeft, Stayable};
+ghost use Rattle.rtps_reader_proxy.specs.Acks.{ackNackedOf, ackNackedAmong, ackRows, ackLeaves, ackedWith, Ackable, runLeft, Stayable};
 use crate::proxy::ReaderProxy;
+use crate::proxy::last_of;
+use crate::proxy::room_for;
 use joined_runs::join;
 use number_sets::SequenceNumberSet;
 use numbers::Answer;
 use numbers::Rows;
 use numbers::SequenceNumber;
+use numbers::answers::earlier;
+use numbers::answers::in_turn;
 use numbers::arith;
 use rising::room;
 
@@ -31,12 +35,15 @@ fn stay(unsent: &mut [u64], count: usize, a: u64, base: u64, last: u64) -> usize
         return count;
     }
     let some = room::keep_from(unsent, count, b);
+    if last_of(unsent, some) <= last {
+        return some;
+    }
     room::keep_before(unsent, some, last + 1)
 }
 
 impl ReaderProxy {
     // The answer of an acknowledgement: 1, 3, 2, 12 or done.
-    fn check_ack(
+    pub fn check_ack(
         self,
         unsent: &[u64],
         gaps: &[u64],
@@ -45,11 +52,13 @@ impl ReaderProxy {
     ) -> Answer
         ensures { λ r. ⌜ r ≡ answerOf (ackRows self (now (unsent .entry)) (now (gaps .entry)) set last) ⌝ }
     {
+        let asked = arith::smaller(set.count as usize, 256);
+        let fits = room_for(unsent, self.unsent_count, self.unsent_cap, asked);
         let good = self.unsent_ok(unsent) & self.gaps_ok(gaps);
         let within = last.within(9223372036854775806);
         let end = last.rank();
         let mut rows = Rows::none();
-        rows.incoherent = !good;
+        rows.incoherent = !(fits & good);
         rows.bits = 256 < set.count;
         rows.range = set.base.is_negative() | !within;
         rows.ahead = end + 1 < arith::larger(set.base.rank(), 1);
@@ -104,6 +113,32 @@ impl ReaderProxy {
         ensures { λ r. ⌜ Gives2 r (now (unsent .exit)) (now (gaps .exit)) (ackNackedOf set last self (now (unsent .entry)) (now (gaps .entry))) ⌝ }
     {
         let answer = self.check_ack(unsent, gaps, set, last);
+        if answer.number != 0 {
+            return AckNacked {
+                answer,
+                left_out: 0,
+                proxy: self,
+            };
+        }
+        self.acknowledged(unsent, gaps, set, last.rank())
+    }
+
+    // The same as one of a step's calls: `beside` is what those are answered that are asked with it, `after` what the one is that comes after them. It is
+    // taken where all of them are done, and else changes nothing.
+    pub fn handle_ack_nack_among(
+        self,
+        unsent: &mut [u64],
+        gaps: &mut [u64],
+        set: SequenceNumberSet,
+        last: SequenceNumber,
+        beside: Answer,
+        after: Answer,
+    ) -> AckNacked
+        ensures { λ r. ⌜ Gives2 r (now (unsent .exit)) (now (gaps .exit)) (ackNackedAmong beside after set last self (now (unsent .entry)) (now (gaps .entry))) ⌝ }
+    {
+        let own = self.check_ack(unsent, gaps, set, last);
+        let all = earlier(own, beside);
+        let answer = in_turn(all, after);
         if answer.number != 0 {
             return AckNacked {
                 answer,

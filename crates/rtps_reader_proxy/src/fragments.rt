@@ -1,15 +1,16 @@
 // The requested fragments: samples, and 64 words of bits for each.
 ghost use mathlib.Core.Path.{_≡_};
 ghost use mathlib.Core.List.{[], _∷_};
-ghost use mathlib.Core.Bool.{not};
+ghost use mathlib.Core.Bool.{not, _&&_};
 ghost use lib.Dec.{ltb};
 ghost use Rattle.numbers.specs.Number.{rankOf};
 ghost use Rattle.numbers.specs.Promise.{Gives2};
 ghost use Rattle.numbers.specs.Refusals.{row, rowsOf, answerOf};
 ghost use Rattle.rtps_reader_proxy.specs.Fragments.{fragsOk, countFrags, cannotAsk, noSlot, fragsRequestedOf, fragSentOf, nextFragOf, nextPiece, repairOf};
-ghost use Rattle.rtps_reader_proxy.specs.Record.{changed};
+ghost use Rattle.rtps_reader_proxy.specs.Record.{roomFor, changed};
 use crate::proxy::Changed;
 use crate::proxy::ReaderProxy;
+use crate::proxy::room_for;
 use number_sets::FragmentNumberSet;
 use numbers::Answer;
 use numbers::Cursor;
@@ -80,19 +81,20 @@ impl ReaderProxy {
         head & rooms
     }
 
-    // The answer of a call that is lent the rooms of the fragments: 1, 3, 2, 10 or done.
+    // The answer of a call that is lent the rooms of the fragments, where `fits` says whether what joins has room: 1, 3, 2, 10 or done.
     fn check_frags(
         self,
         samples: &[u64],
         words: &[u64],
+        fits: bool,
         bits: bool,
         range: bool,
         full: bool,
     ) -> Answer
-        ensures { λ r. ⌜ r ≡ answerOf (rowsOf (row 1 (not (fragsOk self (now (samples .entry)) (now (words .entry)))) ∷ row 3 bits ∷ row 2 range ∷ row 10 full ∷ [])) ⌝ }
+        ensures { λ r. ⌜ r ≡ answerOf (rowsOf (row 1 (not (fits && fragsOk self (now (samples .entry)) (now (words .entry)))) ∷ row 3 bits ∷ row 2 range ∷ row 10 full ∷ [])) ⌝ }
     {
         let mut rows = Rows::none();
-        rows.incoherent = !self.frags_ok(samples, words);
+        rows.incoherent = !(fits & self.frags_ok(samples, words));
         rows.bits = bits;
         rows.range = range;
         rows.frags_full = full;
@@ -108,20 +110,21 @@ impl ReaderProxy {
         (16 <= self.frag_count) & ((size != 0) & !held)
     }
 
-    // The answer of a request.
-    fn check_request(
+    // The answer of a request, with nothing changed: 1, 3, 2, 10 or done. A step that can't take it tells it beside its own.
+    pub fn check_request(
         self,
         samples: &[u64],
         words: &[u64],
         n: SequenceNumber,
         set: FragmentNumberSet,
     ) -> Answer
-        ensures { λ r. ⌜ r ≡ answerOf (rowsOf (row 1 (not (fragsOk self (now (samples .entry)) (now (words .entry)))) ∷ row 3 (ltb 256 (set .count)) ∷ row 2 (cannotAsk n set) ∷ row 10 (noSlot (rankOf n) set self (now (samples .entry)) (now (words .entry))) ∷ [])) ⌝ }
+        ensures { λ r. ⌜ r ≡ answerOf (rowsOf (row 1 (not (roomFor 1 16 (self .«frag_count») (now (samples .entry)) && fragsOk self (now (samples .entry)) (now (words .entry)))) ∷ row 3 (ltb 256 (set .count)) ∷ row 2 (cannotAsk n set) ∷ row 10 (noSlot (rankOf n) set self (now (samples .entry)) (now (words .entry))) ∷ [])) ⌝ }
     {
+        let fits = room_for(samples, self.frag_count, 16, 1);
         let bits = set.count;
         let range = cannot_ask(n, set);
         let full = self.no_slot(samples, words, n.rank(), set);
-        self.check_frags(samples, words, 256 < bits, range, full)
+        self.check_frags(samples, words, fits, 256 < bits, range, full)
     }
 
     fn with_frags(mut self, answer: Answer, count: usize) -> Changed
@@ -165,7 +168,7 @@ impl ReaderProxy {
     ) -> Changed
         ensures { λ r. ⌜ Gives2 r (now (samples .exit)) (now (words .exit)) (fragSentOf n f self (now (samples .entry)) (now (words .entry))) ⌝ }
     {
-        let answer = self.check_frags(samples, words, false, false, false);
+        let answer = self.check_frags(samples, words, true, false, false, false);
         if answer.number != 0 {
             return Changed {
                 answer,
@@ -196,7 +199,7 @@ impl ReaderProxy {
     pub fn repair_frags_requested(self, samples: &[u64], words: &[u64]) -> Told
         ensures { λ r. ⌜ r ≡ repairOf self (now (samples .entry)) (now (words .entry)) ⌝ }
     {
-        let answer = self.check_frags(samples, words, false, false, false);
+        let answer = self.check_frags(samples, words, true, false, false, false);
         if answer.number != 0 {
             return Told { answer, yes: false };
         }

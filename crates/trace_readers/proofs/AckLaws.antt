@@ -16,8 +16,9 @@ use Rattle.number_sets.specs.Calls.{ofNumbers}
 use Rattle.rtps_reader_proxy.specs.declared.proxy.ReaderProxy.{ReaderProxy}
 use Rattle.reader_list.specs.declared.calls.Found.{Found}
 use Rattle.reader_list.specs.Slots.{foundOf}
-use Rattle.writer_steps.specs.declared.acks.AckTaken2.{AckTaken2}
-use Rattle.writer_steps.specs.Acks.{ackStep, taken2}
+use Rattle.writer_steps.specs.declared.two.AckTaken2.{AckTaken2}
+use Rattle.writer_steps.specs.Acks.{ackStep}
+use Rattle.writer_steps.specs.Two.{taken2}
 use Rattle.trace_readers.specs.declared.state.Trace.{Trace}
 use Rattle.trace_readers.specs.declared.state.Followed.{Followed}
 use Rattle.trace_readers.specs.State.{refusedBy, incoherent, readerIn}

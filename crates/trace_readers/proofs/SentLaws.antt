@@ -19,8 +19,8 @@ use Rattle.reader_list.specs.declared.calls.Found.{Found}
 use Rattle.reader_list.specs.Slots.{foundOf}
 use Rattle.writer_send_buffer.specs.declared.frontiers.Woken.{Woken}
 use Rattle.writer_send_buffer.specs.Buffer.{sentOf, woken}
-use Rattle.writer_steps.specs.Answers.{earlier, firstAnswer}
-use Rattle.writer_steps.proofs.Answered.{step-refused, step-done}
+use Rattle.numbers.specs.Answers.{earlier, firstAnswer}
+use Rattle.numbers.proofs.Answered.{step-refused, step-done}
 use Rattle.trace_readers.specs.declared.state.Trace.{Trace}
 use Rattle.trace_readers.specs.declared.state.Followed.{Followed}
 use Rattle.trace_readers.specs.State.{refusedBy, incoherent, ownAnswer, withFlow, readerIn, withReader}

@@ -17,7 +17,7 @@ use Rattle.rtps_reader_proxy.specs.declared.proxy.Changed.{Changed}
 use Rattle.rtps_reader_proxy.specs.Fragments.{fragsOk, cannotAsk, fragsRequestedOf}
 use Rattle.reader_list.specs.declared.calls.Found.{Found}
 use Rattle.reader_list.specs.Slots.{foundOf}
-use Rattle.writer_steps.specs.Answers.{stepped}
+use Rattle.numbers.specs.Answers.{stepped}
 use Rattle.trace_readers.specs.declared.state.Trace.{Trace}
 use Rattle.trace_readers.specs.declared.state.Followed.{Followed}
 use Rattle.trace_readers.specs.State.{refusedBy, incoherent, readerIn, withReader}

@@ -24,9 +24,10 @@ use Rattle.reader_list.specs.Slots.{foundOf}
 use Rattle.writer_send_buffer.specs.declared.flow.WriterSendBuffer.{WriterSendBuffer}
 use Rattle.writer_send_buffer.specs.declared.flow.Told.{Told}
 use Rattle.writer_send_buffer.specs.Buffer.{sentOf}
-use Rattle.writer_steps.specs.declared.acks.AckTaken2.{AckTaken2}
-use Rattle.writer_steps.specs.Answers.{stepped}
-use Rattle.writer_steps.specs.Acks.{ackStep, taken2}
+use Rattle.writer_steps.specs.declared.two.AckTaken2.{AckTaken2}
+use Rattle.numbers.specs.Answers.{stepped}
+use Rattle.writer_steps.specs.Acks.{ackStep}
+use Rattle.writer_steps.specs.Two.{taken2}
 use Rattle.trace_readers.specs.declared.state.Trace.{Trace}
 use Rattle.trace_readers.specs.declared.state.Followed.{Followed}
 use Rattle.trace_readers.specs.State.{refusedBy, incoherent, ownAnswer, withFlow, readerIn, withReader}
@@ -63,7 +64,7 @@ ackPut first id set t large small =
     }
 
 abbrev pub ackedBy : Bool → AckTaken2 → Trace → Followed
-ackedBy first k t = record { answer = k .step .woken .told .answer; trace = withReader first (k .step .proxy) (withFlow (k .step .woken .flow) (k .heads) t) }
+ackedBy first k t = record { answer = k .answered .told .answer; trace = withReader first (k .answered .proxy) (withFlow (k .flow) (k .heads) t) }
 
 abbrev pub ackOf : Bool → ℕ → SequenceNumberSet → Trace → List ℕ → List ℕ → Left2 Followed (List ℕ) (List ℕ)
 ackOf first id set t large small =

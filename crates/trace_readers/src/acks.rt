@@ -12,7 +12,7 @@ use number_sets::SequenceNumberSet;
 use numbers::SequenceNumber;
 use reader_list::arrays::lookup_in_2;
 use writer_steps::AckTaken2;
-use writer_steps::acks::take_ack_nack_in_2;
+use writer_steps::two::take_ack_nack_in_2;
 
 // The set of a line; one that spans more than 256 numbers is one of 257 bits, which is refused with 3 in its turn.
 fn asked(base: u64, numbers: &[u64]) -> SequenceNumberSet
@@ -66,12 +66,11 @@ impl Trace {
     fn acked(self, first: bool, taken: AckTaken2) -> Followed
         ensures { λ r. ⌜ r ≡ ackedBy first taken self ⌝ }
     {
-        let step = taken.step;
-        let woken = step.woken;
-        let told = woken.told;
+        let step = taken.answered;
+        let told = step.told;
         let answer = told.answer;
         let after = taken.heads;
-        let trace = self.with_flow(woken.flow, after)
+        let trace = self.with_flow(taken.flow, after)
             .with_reader(first, step.proxy);
         Followed { answer, trace }
     }

@@ -13,10 +13,10 @@ use numbers::Answer;
 use numbers::FragmentNumber;
 use numbers::Rows;
 use numbers::SequenceNumber;
+use numbers::answers::earlier;
 use numbers::arith::above;
 use reader_list::arrays::lookup_in_2;
 use rtps_reader_proxy::ReaderProxy;
-use writer_steps::answers::earlier;
 
 // One with no member.
 fn pieces_with(base: u32, count: u32) -> FragmentNumberSet

@@ -9,8 +9,8 @@ use crate::state::coherence;
 use crate::unsent_at;
 use numbers::Answer;
 use numbers::SequenceNumber;
+use numbers::answers::earlier;
 use reader_list::arrays::lookup_in_2;
-use writer_steps::answers::earlier;
 
 impl Trace {
     // For one reader: marked, and the sent frontier raised.

@@ -4,12 +4,12 @@ use mathlib.Core.Bool.{true, false, cond}
 use mathlib.Core.List.{List}
 use Rattle.numbers.specs.Number.{numberAt}
 use Rattle.numbers.specs.Refusals.{isDone}
-use Rattle.numbers.specs.Promise.{Left1}
+use Rattle.numbers.specs.Promise.{Left1, Left2}
 use Rattle.numbers.specs.declared.answer.Answer.{Answer}
 use Rattle.reader_list.specs.declared.heads.ReaderHead.{ReaderHead}
 use Rattle.writer_send_buffer.specs.declared.flow.WriterSendBuffer.{WriterSendBuffer}
 use Rattle.writer_send_buffer.specs.declared.flow.Moved.{Moved}
-use Rattle.writer_send_buffer.specs.declared.frontiers.Woken.{Woken}
+use Rattle.writer_send_buffer.specs.declared.flow.Told.{Told}
 use Rattle.writer_send_buffer.specs.declared.limits.Kind.{Kind}
 use Rattle.writer_send_buffer.specs.declared.limits.Limits.{Limits}
 use Rattle.writer_send_buffer.specs.Buffer.{newOf, evictOf}
@@ -33,8 +33,8 @@ abbrev pub newStep : ℕ → ℕ → ℕ → ℕ → Trace → Followed
 newStep w b r s t = madeBy (newOf kindOf (limitsOf w b r s)) t
 
 -- op=match reader=   a reliable reader with the default cap; the frontier is stored in the same step
-abbrev pub listedBy : Left1 Woken (List ReaderHead) → Trace → Followed
-listedBy o t = record { answer = o .result .told .answer; trace = withFlow (o .result .flow) (o .first) t }
+abbrev pub listedBy : Left2 Told (List ReaderHead) WriterSendBuffer → Trace → Followed
+listedBy o t = record { answer = o .result .answer; trace = withFlow (o .second) (o .first) t }
 
 abbrev pub matchedStep : ℕ → Trace → Followed
 matchedStep id t = listedBy (matchStep (t .heads) (t .flow) (record { id = id; reliable = true; cap = 1024 })) t

@@ -8,7 +8,7 @@ use trace_readers::Trace;
 use writer_send_buffer::Kind;
 use writer_send_buffer::Limits;
 use writer_send_buffer::WriterSendBuffer;
-use writer_steps::readers::match_reader_in_2;
+use writer_steps::two::match_reader_in_2;
 
 // op=new: a reliable volatile writer with 16-byte slots.
 pub fn new_step(trace: Trace, window: u64, backlog: u64, retain: u64, slots: u64) -> Followed
@@ -50,11 +50,10 @@ pub fn match_step(trace: Trace, id: u64) -> Followed
     };
     let heads = trace.heads;
     let listed = match_reader_in_2(heads, trace.flow, m);
-    let woken = listed.woken;
-    let told = woken.told;
+    let told = listed.told;
     let answer = told.answer;
     let heads_after = listed.heads;
-    let after = trace.with_flow(woken.flow, heads_after);
+    let after = trace.with_flow(listed.flow, heads_after);
     Followed {
         answer,
         trace: after,

@@ -20,8 +20,7 @@ use Rattle.reader_list.specs.Slots.{frontierOf}
 use Rattle.writer_send_buffer.specs.Buffer.{view, form, toldNo}
 use Rattle.writer_send_buffer.specs.Samples.{slotOf, bytesOf, over, lengthsFit, storeRows, isCoherentStore, writeRows, fetchOf}
 use Rattle.writer_send_buffer.specs.History.{Lent, Call, admit, setAcked, setSent, removeBefore, leaves, wrote, run, history, Kept}
-use Rattle.writer_send_buffer.proofs.Lists.{slot-in}
-use Rattle.writer_send_buffer.proofs.Slots.{lt-or-ge, apart, over-length, over-same, over-other}
+use Rattle.writer_send_buffer.proofs.Slots.{slot-in, lt-or-ge, apart, over-length, over-same, over-other}
 use Rattle.writer_send_buffer.proofs.Sound.{holds, all-hold, Fits, Sound, sound-is, Writes, written-is, slot-below, next-slot, length-fits, fit-of}
 use Rattle.writer_send_buffer.proofs.Steps.{by-range, leftBy, view-form, form-coherent, After, after, fits-admitted, fits-stored, fits-raised, fits-evicted}
 

@@ -1,4 +1,4 @@
--- Slots that don't meet: what is written into one is not seen in another. Assumes nothing.
+-- Slots lie within the store, and don't meet: what is written into one is not seen in another. Assumes nothing.
 use Prim.Native.Nat.{ℕ, _+_, _-_, _*_, _/_, _%_, _<_, _≤_}
 use mathlib.Core.Path.{_≡_, refl, sym, ap, _∙_}
 use mathlib.Core.List.{List, _++_, append-assoc}
@@ -6,12 +6,19 @@ use mathlib.Core.Bool.{Bool, true, false}
 use mathlib.Core.Logic.{_⊎_, inl, inr, ⊎-elim}
 use lib.Dec.{ltb}
 use borrow.Author.Tests.{ltb-true, ltb-false}
-use native.Mathlib.Nat.{div-add-mod', mul-le-mul-right}
+use native.Mathlib.Nat.{div-add-mod', mul-le-mul-right, mul-le-mul-left, le-trans, add-mul, one-mul}
 use native.Mathlib.Omega.{arith}
 use lib.ListN.{length, take, drop, length-append, length-take, length-drop, take-append-drop}
 use lib.Seq.{drop-append-le, take-append-le, drop-append-add, drop-drop, length-take-le, take-at, drop-at}
 use Rattle.writer_send_buffer.specs.Samples.{over}
-use Rattle.writer_send_buffer.proofs.Lists.{slot-in}
+
+-- the bytes of all slots
+pub area : {a b : ℕ} → a ≤ 256 → b ≤ 8192 → a * b ≤ 2097152
+area {a} {b} ha hb = le-trans (mul-le-mul-right b ha) (mul-le-mul-left 256 hb)
+
+-- the slot i of s slots of b bytes ends within
+pub slot-in : {i s : ℕ} (b : ℕ) → i < s → i * b + b ≤ s * b
+slot-in {i} {s} b h = let p : i + 1 ≤ s = omega arith in rw (add-mul, one-mul) at (mul-le-mul-right b p)
 
 pub lt-or-ge : (a b : ℕ) → (a < b) ⊎ (b ≤ a)
 lt-or-ge a b = go (ltb a b) refl

@@ -21,7 +21,7 @@ use Rattle.writer_send_buffer.specs.declared.samples.Located.{Located}
 use Rattle.writer_send_buffer.specs.Flow.{Flow, allOf, limitRows, allowed, fitRows, fits, room, full, retained}
 use Rattle.writer_send_buffer.specs.Buffer.{view, isCoherent}
 use Rattle.writer_send_buffer.specs.Samples.{lengthsFit, storeRows, isCoherentStore, writeRows, slotOf, startOf, over, fetchRows, bytesOf, locateOf, fetchOf}
-use Rattle.writer_send_buffer.proofs.Lists.{slot-in}
+use Rattle.writer_send_buffer.proofs.Slots.{slot-in}
 
 pub holds : (bs : List Bool) → allOf bs ≡ true → (i : ℕ) → getD bs i true ≡ true
 holds [] h i = refl

@@ -86,16 +86,33 @@ locateOf f room lens n =
     (λ no. record { answer = no; start = 0; length = 0 })
     (record { answer = done; start = startOf (view f) (rankOf n); length = getD lens (slotOf (view f) (rankOf n)) 0 })
 
+-- the same with no look at the store, for one that was found coherent: there it is the same (`located-coherent`, proofs/Located.antt). It says something for any
+-- record and any lengths: where the limits or `count` lengths give the sample no slot, nothing is there
+abbrev pub hasPlace : Flow → ℕ → ℕ → Bool
+hasPlace f count n = retained n f && (eqb count (f .limits .slots) && (leb 1 (f .limits .slots) && (leb (f .limits .slots) 256 && leb (f .limits .«slot_bytes») 8192)))
+
+abbrev pub locatedOf : WriterSendBuffer → List ℕ → SequenceNumber → Located
+locatedOf f lens n =
+    unless (fetched true (hasPlace (view f) (length lens) (rankOf n)))
+    (λ no. record { answer = no; start = 0; length = 0 })
+    (record { answer = done; start = startOf (view f) (rankOf n); length = getD lens (slotOf (view f) (rankOf n)) 0 })
+
 -- the part of the store: an empty one, where it is not retained
 abbrev pub fetchOf : WriterSendBuffer → List ℕ → List ℕ → SequenceNumber → List ℕ
 fetchOf f s lens n = unless (fetchRows f (length s) lens n) (λ _. []) (bytesOf (view f) s lens (rankOf n))
 
--- WHAT THE PRIVATE FUNCTIONS ASK
+-- WHAT THE PRIVATE FUNCTIONS PROMISE AND ASK
 
--- a run of numbers whose slots are looked at
-pub record Run (lens : List ℕ) (from count : ℕ) : Type 0 where
+-- no number is above m
+abbrev pub allAtMost : ℕ → List ℕ → Bool
+allAtMost m [] = true
+allAtMost m (x ∷ xs) = leb x m && allAtMost m xs
+
+-- so many samples whose slots are looked at: no more than there are slots
+pub record Run (lens : List ℕ) (count : ℕ) : Type 0 where
   pub some : 0 < length lens
-  pub small : from + count < 18446744073709551615
+  pub few : length lens ≤ 256
+  pub held : count ≤ length lens
 
 -- a slot of the store, and bytes that fit it
 pub record Slot (s lens p : List ℕ) (slot bytes : ℕ) : Type 0 where

@@ -1,4 +1,5 @@
 // A writer's send buffer: the flow record and admission, and the retained samples in a lent store.
+mod at_most;
 mod flow;
 mod frontiers;
 mod in_place;

@@ -4,9 +4,12 @@ ghost use Prim.Native.Nat.{_*_};
 ghost use lib.ListN.{length, set};
 ghost use Rattle.numbers.specs.Refusals.{answerOf};
 ghost use Rattle.numbers.specs.Promise.{Gives2};
-ghost use Rattle.writer_send_buffer.specs.Samples.{Run, Slot, over, lengthsFit, isCoherentStore, writeRows, admitOf, handed, fetchRows, locateOf, fetchOf};
+ghost use Rattle.writer_send_buffer.specs.Buffer.{view};
+ghost use Rattle.writer_send_buffer.specs.Samples.{Run, Slot, over, lengthsFit, isCoherentStore, writeRows, admitOf, handed, hasPlace, locatedOf, locateOf, fetchOf};
+use crate::at_most::all_at_most;
 use crate::flow::Numbered;
 use crate::flow::WriterSendBuffer;
+use crate::limits::Limits;
 use numbers::Answer;
 use numbers::Rows;
 use numbers::SequenceNumber;
@@ -39,23 +42,26 @@ fn copy_in(dst: &mut [u8], src: &[u8])
     }
 }
 
-// Whether the lengths of `count` samples, the first of them in the slot of `from`, are at most `most`.
+// Whether the lengths of `count` samples, the first of them in the slot of `from`, are at most `most`. They stand in all of the ring, in one part of it, or
+// in two: up to its end, and from its start.
 fn lengths_fit(lens: &[u64], from: u64, count: u64, most: u64) -> bool
-    requires { ⌜ Run (now lens) from count ⌝ }
+    requires { ⌜ Run (now lens) count ⌝ }
     ensures { λ r. ⌜ r ≡ lengthsFit (now (lens .entry)) (length (now (lens .entry))) most from count ⌝ }
 {
-    let mut fit = true;
-    let mut slot = (from % (lens.len() as u64)) as usize;
-    let mut i: u64 = 0;
-    while i < count {
-        fit = fit & (lens[slot] <= most);
-        slot += 1;
-        if slot == lens.len() {
-            slot = 0;
-        }
-        i += 1;
+    let slots = lens.len();
+    let held = count as usize;
+    if held == slots {
+        return all_at_most(lens, most);
     }
-    fit
+    let a = (from % (slots as u64)) as usize;
+    let e = a + held;
+    if e <= slots {
+        return all_at_most(&lens[a..e], most);
+    }
+    let rest = e - slots;
+    let front = all_at_most(&lens[a..], most);
+    let back = all_at_most(&lens[..rest], most);
+    front & back
 }
 
 // The payload is copied into a slot: the only copy.
@@ -89,20 +95,6 @@ impl WriterSendBuffer {
         let last = self.last.rank();
         let first = self.first.rank();
         lengths_fit(lens, first - 1, above(last + 1, first), limits.slot_bytes)
-    }
-
-    // The answer of a fetch.
-    fn fetch_answer(self, room: usize, lens: &[u64], number: SequenceNumber) -> Answer
-        ensures { λ r. ⌜ r ≡ answerOf (fetchRows self room (now (lens .entry)) number) ⌝ }
-    {
-        let n = number.rank();
-        let last = self.last.rank();
-        let first = self.first.rank();
-        let coherent = self.is_coherent_store(room, lens);
-        let mut rows = Rows::none();
-        rows.incoherent = !coherent;
-        rows.nothing = !((first <= n) & (n <= last));
-        Answer::of(rows)
     }
 
     // The answer of a write of `len` bytes.
@@ -143,13 +135,31 @@ impl WriterSendBuffer {
         }
     }
 
-    // Where the bytes of a sample lie in a store of `room` bytes.
-    pub fn locate(self, room: usize, lens: &[u64], number: SequenceNumber) -> Located
-        ensures { λ r. ⌜ r ≡ locateOf self room (now (lens .entry)) number ⌝ }
+    // Whether number n is retained, and the limits and `count` lengths give it a slot.
+    fn has_place(self, count: usize, n: u64) -> bool
+        ensures { λ r. ⌜ r ≡ hasPlace (view self) count n ⌝ }
+    {
+        let last = self.last.rank();
+        let first = self.first.rank();
+        let limits = self.limits;
+        let slots = limits.slots;
+        let bytes = limits.slot_bytes;
+        let within = (1 <= slots)
+            & ((slots <= Limits::MOST_SLOTS) & (bytes <= Limits::MOST_SLOT_BYTES));
+        ((first <= n) & (n <= last)) & ((count == slots as usize) & within)
+    }
+
+    // Where the bytes of a sample lie, in a store that was found coherent: after one `is_coherent_store` this serves for many samples. It doesn't look at the
+    // store, and of one that isn't coherent it promises no more than it says.
+    pub fn located(self, lens: &[u64], number: SequenceNumber) -> Located
+        ensures { λ r. ⌜ r ≡ locatedOf self (now (lens .entry)) number ⌝ }
     {
         let n = number.rank();
-        let answer = self.fetch_answer(room, lens, number);
-        if answer.number != 0 {
+        let there = self.has_place(lens.len(), n);
+        let mut rows = Rows::none();
+        rows.nothing = !there;
+        let answer = Answer::of(rows);
+        if !there {
             return Located {
                 answer,
                 start: 0,
@@ -157,13 +167,30 @@ impl WriterSendBuffer {
             };
         }
         let limits = self.limits;
-        let slot = ((n - 1) % limits.slots) as usize;
+        let slot = (above(n, 1) % limits.slots) as usize;
         let bytes = limits.slot_bytes as usize;
         Located {
             answer,
             start: slot * bytes,
             length: lens[slot] as usize,
         }
+    }
+
+    // Where the bytes of a sample lie in a store of `room` bytes.
+    pub fn locate(self, room: usize, lens: &[u64], number: SequenceNumber) -> Located
+        ensures { λ r. ⌜ r ≡ locateOf self room (now (lens .entry)) number ⌝ }
+    {
+        if !self.is_coherent_store(room, lens) {
+            let mut rows = Rows::none();
+            rows.incoherent = true;
+            let answer = Answer::of(rows);
+            return Located {
+                answer,
+                start: 0,
+                length: 0,
+            };
+        }
+        self.located(lens, number)
     }
 
     // The bytes of a sample, as a part of the lent store; none where it is not retained.

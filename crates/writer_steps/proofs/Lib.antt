@@ -1,8 +1,11 @@
 -- Laws that belong to no one function.
-pub mod Answered
 pub mod Sends
-pub mod Stores
-pub mod Acknowledges
+pub mod Repeats
+pub mod Lies
+pub mod Settles
 pub mod Together
 pub mod Moves
+pub mod Asks
 pub mod Unique
+pub mod Cells
+pub mod StepsInPart

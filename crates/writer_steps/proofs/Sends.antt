@@ -16,9 +16,9 @@ use Rattle.writer_send_buffer.specs.declared.flow.WriterSendBuffer.{WriterSendB
 use Rattle.writer_send_buffer.specs.Flow.{retained}
 use Rattle.writer_send_buffer.specs.Buffer.{view}
 use Rattle.writer_steps.specs.declared.send.Sent.{Sent}
-use Rattle.writer_steps.specs.Answers.{firstAnswer}
+use Rattle.numbers.specs.Answers.{firstAnswer}
 use Rattle.writer_steps.specs.Send.{firstUnsent, sendAnswers, sendOf}
-use Rattle.writer_steps.proofs.Answered.{step-refused, step-done}
+use Rattle.numbers.proofs.Answered.{step-refused, step-done}
 
 module _ (f : WriterSendBuffer) (h : ReaderProxy) (unsent : List ℕ) (a : Answer) (q : a ≡ firstAnswer (sendAnswers f h unsent)) where
   abbrev not-sent : Answer → Left1 Sent (List ℕ)

@@ -7,32 +7,35 @@ use mathlib.Core.List.{List, [], _∷_}
 use lib.Dec.{ltb, eqb}
 use borrow.Author.Tests.{eq-eqb, ne-eqb, eqb-true, eqb-false, lt-ltb}
 use Rattle.numbers.specs.Number.{rankOf, negative, numberAt}
-use Rattle.numbers.specs.Refusals.{answerOf, done, isDone}
+use Rattle.numbers.specs.Refusals.{row, rowsOf, answerOf, done, isDone}
 use Rattle.numbers.specs.Promise.{Left1, Left2}
 use Rattle.numbers.specs.declared.answer.Answer.{Answer}
 use Rattle.numbers.specs.declared.answer.Rows.{Rows}
-use Rattle.number_sets.specs.declared.sequence_number_set.SequenceNumberSet.{SequenceNumberSet}
-use Rattle.rtps_reader_proxy.specs.declared.proxy.ReaderProxy.{ReaderProxy}
-use Rattle.rtps_reader_proxy.specs.declared.acks.AckNacked.{AckNacked}
-use Rattle.rtps_reader_proxy.specs.Acks.{ackRows, ackLeaves, ackNackedOf}
 use Rattle.reader_list.specs.declared.heads.ReaderHead.{ReaderHead}
 use Rattle.reader_list.specs.declared.heads.AckedFrontier.{AckedFrontier}
+use Rattle.reader_list.specs.declared.calls.Found.{Found}
 use Rattle.reader_list.specs.declared.calls.Front.{Front}
-use Rattle.reader_list.specs.declared.calls.Match.{Match}
 use Rattle.reader_list.specs.Readers.{frontier}
-use Rattle.reader_list.specs.Slots.{readers, isCoherent, frontierOf, frontierAt, listed, unknown, matchRows, frontOf, matchOf, departOf, ackOf}
+use Rattle.reader_list.specs.Slots.{readers, isCoherent, freeSlot, unknown, frontierOf, frontierAt, foundOf, frontOf}
+use Rattle.reader_list.specs.Slots as slots
 use Rattle.reader_list.proofs.Smallest.{frontier-back}
 use Rattle.writer_send_buffer.specs.declared.flow.WriterSendBuffer.{WriterSendBuffer}
 use Rattle.writer_send_buffer.specs.declared.flow.Told.{Told}
 use Rattle.writer_send_buffer.specs.declared.frontiers.Woken.{Woken}
 use Rattle.writer_send_buffer.specs.Flow.{ahead, stored, wakes}
-use Rattle.writer_send_buffer.specs.Buffer.{view, form, ranged, ackedOf, toldNo}
+use Rattle.writer_send_buffer.specs.Buffer.{view, form, ranged, ackedOf, toldNo, woken}
 use Rattle.writer_send_buffer.specs.Buffer as buffer
-use Rattle.writer_steps.specs.declared.acks.AckStep.{AckStep}
-use Rattle.writer_steps.specs.Answers.{earlier, firstAnswer}
-use Rattle.writer_steps.specs.Readers.{storeAnswers, storedOf, listStep, matchStep, departStep, frontierIn}
-use Rattle.writer_steps.specs.Acks.{foreseenOf, agreeOf, ackList, takenOf, ackListStep, ackStep}
-use Rattle.writer_steps.proofs.Answered.{unless-answer, unless-done, saidRows, left-done, right-done}
+use Rattle.numbers.specs.Answers.{earlier, answered}
+use Rattle.writer_steps.specs.Readers.{notStored, storedOf, withFlow, after, listed, listStep, frontierIn}
+use Rattle.numbers.proofs.Answered.{unless-answer, unless-done}
+
+-- what is answered, where it is done
+pub answered-done : {A : Type 0} (g : A → Answer) (a : Answer) (f : Answer → A) (d : A) → ((x : Answer) → g (f x) ≡ x) → g (answered a f d) .number ≡ 0 → (a .number ≡ 0) × (answered a f d ≡ d)
+answered-done g a f d h z = go (isDone a) refl z
+  where
+    go : (t : Bool) → isDone a ≡ t → g (cond t d (f a)) .number ≡ 0 → (a .number ≡ 0) × (cond t d (f a) ≡ d)
+    go true e y = (eqb-true (a .number) 0 e, refl)
+    go false e y = absurd (eqb-false (a .number) 0 e (sym (ap (λ (x : Answer). x .number) (h a)) ∙ y))
 
 -- STORING
 
@@ -57,6 +60,13 @@ module _ (f : WriterSendBuffer) (a : AckedFrontier) where
   put-answer : ackedOf f a .result .answer ≡ answerOf putRows
   put-answer = unless-answer (λ (o : Left1 Told WriterSendBuffer). o .result .answer) putRows not-put is-put (λ x. refl) refl
 
+  put-kept : (ackedOf f a .result .answer .number ≡ 0 → ⊥) → ackedOf f a .first ≡ f
+  put-kept z = go (isDone (answerOf putRows)) refl
+    where
+      go : (t : Bool) → isDone (answerOf putRows) ≡ t → cond {A = Left1 Told WriterSendBuffer} t is-put (not-put (answerOf putRows)) .first ≡ f
+      go true e = absurd (z (ap (λ (x : Answer). x .number) put-answer ∙ eqb-true (answerOf putRows .number) 0 e))
+      go false e = refl
+
   put-done : ackedOf f a .result .answer .number ≡ 0 → ackedOf f a ≡ is-put
   put-done z = unless-done (λ (o : Left1 Told WriterSendBuffer). o .result .answer) putRows not-put is-put (λ x. refl) refl z
 
@@ -67,76 +77,100 @@ module _ (hs : List ReaderHead) where
   abbrev the-front : Front
   the-front = record { answer = done; frontier = frontierAt (frontier (readers hs)) }
 
-  front-answer : frontOf hs .answer ≡ answerOf (listed false (isCoherent hs) false false false)
-  front-answer = unless-answer (λ (o : Front). o .answer) (listed false (isCoherent hs) false false false) no-front the-front (λ x. refl) refl
+  front-answer : frontOf hs .answer ≡ answerOf (slots.listed false (isCoherent hs) false false false)
+  front-answer = unless-answer (λ (o : Front). o .answer) (slots.listed false (isCoherent hs) false false false) no-front the-front (λ x. refl) refl
 
   front-done : frontOf hs .answer .number ≡ 0 → frontOf hs ≡ the-front
-  front-done z = unless-done (λ (o : Front). o .answer) (listed false (isCoherent hs) false false false) no-front the-front (λ x. refl) refl z
+  front-done z = unless-done (λ (o : Front). o .answer) (slots.listed false (isCoherent hs) false false false) no-front the-front (λ x. refl) refl z
 
-module _ (before : Answer) (hs : List ReaderHead) (f : WriterSendBuffer) where
-  abbrev all : Answer
-  all = firstAnswer (storeAnswers before (frontOf hs) f)
+-- a reader looked up: the answer is that of its rows
+module _ (hs : List ReaderHead) (i : ℕ) where
+  abbrev pub foundRows : Rows
+  foundRows = slots.listed false (isCoherent hs) false (unknown i (readers hs)) false
 
-  abbrev outcome : Bool → Woken
-  outcome t = cond {A = Woken} t (record { told = record { answer = done; yes = ackedOf f (frontOf hs .frontier) .result .yes }; flow = ackedOf f (frontOf hs .frontier) .first }) (record { told = toldNo all; flow = f })
+  pub found-answer : foundOf hs i .answer ≡ answerOf foundRows
+  found-answer = unless-answer (λ (x : Found). x .answer) foundRows (λ no. record { answer = no; place = 0; head = freeSlot }) _ (λ x. refl) refl
 
-  -- the answer of the step is that of its calls together
-  store-is : storedOf before (frontOf hs) f .told .answer ≡ all
-  store-is = go (isDone all) refl
+-- the frontier of a list, stored
+module _ (hs : List ReaderHead) (f : WriterSendBuffer) where
+  abbrev put : Woken
+  put = storedOf (frontOf hs) f
+
+  store-kept : (put .told .answer .number ≡ 0 → ⊥) → put .flow ≡ f
+  store-kept z = go (isDone (frontOf hs .answer)) refl
     where
-      go : (t : Bool) → isDone all ≡ t → outcome t .told .answer ≡ all
-      go true e = λ j. record { number = sym (eqb-true (all .number) 0 e) j }
+      go : (t : Bool) → isDone (frontOf hs .answer) ≡ t → cond {A = Woken} t (woken (ackedOf f (frontOf hs .frontier))) (notStored f (frontOf hs .answer)) .flow ≡ f
+      go true e = put-kept f (frontOf hs .frontier) (λ y. z (ap (λ (t : Bool). cond {A = Woken} t (woken (ackedOf f (frontOf hs .frontier))) (notStored f (frontOf hs .answer)) .told .answer .number) e ∙ y))
       go false e = refl
 
-  module _ (z : storedOf before (frontOf hs) f .told .answer .number ≡ 0) where
-    together : all .number ≡ 0
-    together = sym (ap (λ (x : Answer). x .number) store-is) ∙ z
+  module _ (z : put .told .answer .number ≡ 0) where
+    both : (frontOf hs .answer .number ≡ 0) × (put ≡ woken (ackedOf f (frontOf hs .frontier)))
+    both = answered-done (λ (x : Woken). x .told .answer) (frontOf hs .answer) (notStored f) (woken (ackedOf f (frontOf hs .frontier))) (λ x. refl) z
 
-    later-done : earlier (frontOf hs .answer) (ackedOf f (frontOf hs .frontier) .result .answer) .number ≡ 0
-    later-done =
-        right-done before (earlier (frontOf hs .answer) (ackedOf f (frontOf hs .frontier) .result .answer))
-        (saidRows (frontOf hs .answer) (ackedOf f (frontOf hs .frontier) .result .answer)) refl together
-
-    pub before-done : (r : Rows) → before ≡ answerOf r → before .number ≡ 0
-    before-done r q = left-done before (earlier (frontOf hs .answer) (ackedOf f (frontOf hs .frontier) .result .answer)) r q together
-
-    pub asked-done : frontOf hs .answer .number ≡ 0
-    asked-done = left-done (frontOf hs .answer) (ackedOf f (frontOf hs .frontier) .result .answer) (listed false (isCoherent hs) false false false) (front-answer hs) later-done
-
-    pub stored-done : ackedOf f (frontOf hs .frontier) .result .answer .number ≡ 0
-    stored-done = right-done (frontOf hs .answer) (ackedOf f (frontOf hs .frontier) .result .answer) (putRows f (frontOf hs .frontier)) (put-answer f (frontOf hs .frontier)) later-done
-
-    flow-is : storedOf before (frontOf hs) f .flow ≡ ackedOf f (frontOf hs .frontier) .first
-    flow-is = ap (λ (t : Bool). outcome t .flow) (eq-eqb (all .number) 0 together)
-
-    pub stored-frontier : frontier (readers hs) < 9223372036854775808 → frontierIn (storedOf before (frontOf hs) f .flow) ≡ frontier (readers hs)
+    pub stored-frontier : frontier (readers hs) < 9223372036854775808 → frontierIn (put .flow) ≡ frontier (readers hs)
     stored-frontier small =
         ap frontierIn
-        (flow-is
-        ∙ ap (λ (o : Left1 Told WriterSendBuffer). o .first) (put-done f (frontOf hs .frontier) stored-done)
-        ∙ ap (λ (o : Front). form (stored (frontierOf (o .frontier)) (view f))) (front-done hs asked-done)
+        (ap (λ (x : Woken). x .flow) (both .1)
+        ∙ ap (λ (o : Left1 Told WriterSendBuffer). o .first) (put-done f (frontOf hs .frontier) (sym (ap (λ (x : Woken). x .told .answer .number) (both .1)) ∙ z))
+        ∙ ap (λ (o : Front). form (stored (frontierOf (o .frontier)) (view f))) (front-done hs (both .0))
         ∙ ap (λ (n : ℕ). form (stored n (view f))) (frontier-back (frontier (readers hs)) small))
         ∙ held (frontier (readers hs)) f small
 
--- A CHANGE OF THE LIST
-module _ (hs : List ReaderHead) (f : WriterSendBuffer) (o : Left1 Answer (List ReaderHead)) where
-  abbrev answer : Answer
-  answer = listStep hs f o .result .told .answer
+-- and after a call that is answered so
+module _ (a : Answer) (hs : List ReaderHead) (f : WriterSendBuffer) where
+  abbrev then : Woken
+  then = after a (storedOf (frontOf hs) f) f
 
-  -- a refusal changes nothing
-  pub list-kept : (answer .number ≡ 0 → ⊥) → (listStep hs f o .first ≡ hs) × (listStep hs f o .result .flow ≡ f)
-  list-kept z = (ap (λ (t : Bool). cond t (o .first) hs) (ne-eqb (answer .number) 0 z), go (isDone (all (o .result) (o .first) f)) refl)
+  pub then-kept : (then .told .answer .number ≡ 0 → ⊥) → then .flow ≡ f
+  then-kept z = go (isDone a) refl
     where
-      go : (t : Bool) → isDone (all (o .result) (o .first) f) ≡ t → outcome (o .result) (o .first) f t .flow ≡ f
-      go true e = absurd (z (ap (λ (x : Answer). x .number) (store-is (o .result) (o .first) f) ∙ eqb-true (all (o .result) (o .first) f .number) 0 e))
+      go : (t : Bool) → isDone a ≡ t → cond {A = Woken} t (storedOf (frontOf hs) f) (notStored f a) .flow ≡ f
+      go true e = store-kept hs f (λ y. z (ap (λ (t : Bool). cond {A = Woken} t (storedOf (frontOf hs) f) (notStored f a) .told .answer .number) e ∙ y))
       go false e = refl
 
-  module _ (z : answer .number ≡ 0) where
-    pub list-is : listStep hs f o .first ≡ o .first
-    list-is = ap (λ (t : Bool). cond t (o .first) hs) (eq-eqb (answer .number) 0 z)
+  module _ (z : then .told .answer .number ≡ 0) where
+    pub then-done : (a .number ≡ 0) × (then ≡ storedOf (frontOf hs) f)
+    then-done = answered-done (λ (x : Woken). x .told .answer) a (notStored f) (storedOf (frontOf hs) f) (λ x. refl) z
 
-    -- "The frontier is the smallest acked over the reliable readers": of the list as the step leaves it. (Any list of 64-bit numbers has one below 2^63.)
-    pub list-frontier : frontier (readers (listStep hs f o .first)) < 9223372036854775808 → frontierIn (listStep hs f o .result .flow) ≡ frontier (readers (listStep hs f o .first))
-    list-frontier small =
-        stored-frontier (o .result) (o .first) f z (rw (← list-is) small)
-        ∙ ap (λ (l : List ReaderHead). frontier (readers l)) (sym list-is)
+    -- "The frontier is the smallest acked over the reliable readers". (Any list of 64-bit numbers has one below 2^63.)
+    pub then-frontier : frontier (readers hs) < 9223372036854775808 → frontierIn (then .flow) ≡ frontier (readers hs)
+    then-frontier small =
+        ap (λ (x : Woken). frontierIn (x .flow)) (then-done .1)
+        ∙ stored-frontier hs f (sym (ap (λ (x : Woken). x .told .answer .number) (then-done .1)) ∙ z) small
+
+-- THE LIST, where the step is refused and where it is done
+module _ (w : Woken) (old new : List ReaderHead) where
+  pub list-kept : (w .told .answer .number ≡ 0 → ⊥) → listed w old new ≡ old
+  list-kept z = ap (λ (t : Bool). cond t new old) (ne-eqb (w .told .answer .number) 0 z)
+
+  pub list-is : w .told .answer .number ≡ 0 → listed w old new ≡ new
+  list-is z = ap (λ (t : Bool). cond t new old) (eq-eqb (w .told .answer .number) 0 z)
+
+-- THE FLOW RECORD asked with the rest: where it is coherent, the answer is what the rest is answered
+module _ where
+  abbrev stays : ℕ → Type 0
+  stays n = earlier (record { number = n }) done ≡ record { number = n }
+
+  pick : (t : Bool) (x y : ℕ) → stays x → stays y → stays (cond t x y)
+  pick true x y a b = a
+  pick false x y a b = b
+
+  alone : (r : Rows) → earlier (answerOf r) done ≡ answerOf r
+  alone r =
+      pick (r .limit) 13 _ refl
+      (pick (r .incoherent) 1 _ refl
+      (pick (r .bits) 3 _ refl
+      (pick (r .range) 2 _ refl
+      (pick (r .reader) 11 _ refl
+      (pick (r .ahead) 12 _ refl
+      (pick (r .payload) 4 _ refl
+      (pick (r .«used_up») 5 _ refl
+      (pick (r .«would_block») 6 _ refl
+      (pick (r .«store_full») 7 _ refl
+      (pick (r .«readers_full») 8 _ refl
+      (pick (r .«gaps_full») 9 _ refl
+      (pick (r .«frags_full») 10 _ refl
+      (pick (r .nothing) 14 0 refl refl)))))))))))))
+
+pub with-coherent : (r : Rows) (f : WriterSendBuffer) → buffer.isCoherent f ≡ true → withFlow (answerOf r) f ≡ answerOf r
+with-coherent r f c = ap (λ (t : Bool). earlier (answerOf r) (answerOf (rowsOf (row 1 (not t) ∷ [])))) c ∙ alone r

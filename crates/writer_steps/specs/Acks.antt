@@ -1,80 +1,91 @@
--- An ACKNACK taken by reader id: the reader's record, its head's acked and the stored frontier move together. Assumes nothing.
+-- An ACKNACK taken by reader id: the reader's record, its head's acked in the list and the stored frontier move together. Assumes nothing.
 use Prim.Native.Nat.{ℕ}
 use mathlib.Core.Bool.{Bool, not, cond, _&&_}
 use mathlib.Core.List.{List, [], _∷_}
 use lib.Dec.{eqb}
-use Rattle.numbers.specs.Number.{rankOf}
+use Rattle.numbers.specs.Number.{rankOf, numberAt}
 use Rattle.numbers.specs.Refusals.{row, rowsOf, answerOf, isDone}
-use Rattle.numbers.specs.Promise.{Left1, Left2, Left3}
+use Rattle.numbers.specs.Answers.{earlier}
+use Rattle.numbers.specs.Promise.{Left2, Left4}
 use Rattle.numbers.specs.declared.answer.Answer.{Answer}
 use Rattle.numbers.specs.declared.answer.Rows.{Rows}
 use Rattle.numbers.specs.declared.sequence_number.SequenceNumber.{SequenceNumber}
 use Rattle.number_sets.specs.declared.sequence_number_set.SequenceNumberSet.{SequenceNumberSet}
 use Rattle.rtps_reader_proxy.specs.declared.proxy.ReaderProxy.{ReaderProxy}
 use Rattle.rtps_reader_proxy.specs.declared.acks.AckNacked.{AckNacked}
-use Rattle.rtps_reader_proxy.specs.Acks.{ackNackedOf}
+use Rattle.rtps_reader_proxy.specs.Reader.{ackedAfter}
+use Rattle.rtps_reader_proxy.specs.Acks.{ackNackedAmong}
 use Rattle.reader_list.specs.declared.heads.ReaderHead.{ReaderHead}
 use Rattle.reader_list.specs.declared.calls.Found.{Found}
 use Rattle.reader_list.specs.declared.calls.Acked.{Acked}
-use Rattle.reader_list.specs.Slots.{foundOf, ackOf}
+use Rattle.reader_list.specs.declared.ends.Put.{Put}
+use Rattle.reader_list.specs.declared.walk.Seen.{Seen}
+use Rattle.reader_list.specs.Slots.{foundOf, frontOf, ackOf}
+use Rattle.reader_list.specs.Walk.{ackedEnd, foundEnd, asking, frontWith}
 use Rattle.writer_send_buffer.specs.declared.flow.WriterSendBuffer.{WriterSendBuffer}
 use Rattle.writer_send_buffer.specs.declared.frontiers.Woken.{Woken}
-use Rattle.writer_steps.specs.declared.acks.Foreseen.{Foreseen}
-use Rattle.writer_steps.specs.declared.acks.AckStep.{AckStep}
-use Rattle.writer_steps.specs.declared.acks.AckTaken64.{AckTaken64}
-use Rattle.writer_steps.specs.declared.acks.AckTaken2.{AckTaken2}
-use Rattle.writer_steps.specs.Answers.{firstAnswer}
-use Rattle.writer_steps.specs.Readers.{listStep}
+use Rattle.writer_steps.specs.declared.acks.AckTold.{AckTold}
+use Rattle.writer_steps.specs.declared.acks.AckSettled.{AckSettled}
+use Rattle.writer_steps.specs.declared.stores.Settled.{Settled}
+use Rattle.writer_steps.specs.Readers.{storedOf, withFlow, after, listed, settledOf}
 
--- what the call on the reader's record answers, and the acked that it leaves
-abbrev pub foreseenIn : Left2 AckNacked (List ℕ) (List ℕ) → Foreseen
-foreseenIn o = record { answer = o .result .answer; acked = o .result .proxy .«all_acked_before» }
-
-abbrev pub foreseenOf : SequenceNumberSet → SequenceNumber → ReaderProxy → List ℕ → List ℕ → Foreseen
-foreseenOf set last h unsent gaps = foreseenIn (ackNackedOf set last h unsent gaps)
+-- the acked that the ACKNACK leaves, where it is taken
+abbrev pub ackedBy : SequenceNumberSet → ReaderProxy → SequenceNumber
+ackedBy set h = numberAt (ackedAfter (rankOf (h .«all_acked_before»)) (rankOf (set .base)))
 
 -- where there is both a reader's record and its head, they agree on acked, or it is 1
 abbrev pub agreeRows : Found → ReaderProxy → Rows
 agreeRows found h = rowsOf (row 1 (isDone (found .answer) && not (eqb (rankOf (found .head .acked)) (rankOf (h .«all_acked_before»)))) ∷ [])
 
-abbrev pub agreeOf : Found → ReaderProxy → Answer
-agreeOf found h = answerOf (agreeRows found h)
+-- what is asked with it: whether the reader is there (11), and whether they agree; and whether the flow record is coherent
+abbrev pub thereFor : Found → ReaderProxy → Answer
+thereFor found h = earlier (found .answer) (answerOf (agreeRows found h))
 
--- the head's acked becomes the record's; 1, 3, 2, 11 and 12 come from here
-abbrev pub ackList : List ReaderHead → ℕ → ReaderProxy → Foreseen → Left1 Answer (List ReaderHead)
-ackList hs i h s =
+abbrev pub besideAck : WriterSendBuffer → Found → ReaderProxy → Answer
+besideAck f found h = withFlow (thereFor found h) f
+
+-- the list with the head's acked as the ACKNACK leaves it, and its frontier stored
+abbrev pub ackedList : List ReaderHead → ℕ → SequenceNumberSet → ReaderProxy → List ReaderHead
+ackedList hs i set h = ackOf hs (record { id = i; acked = ackedBy set h }) .first
+
+abbrev pub ackStored : List ReaderHead → WriterSendBuffer → ℕ → SequenceNumberSet → ReaderProxy → Woken
+ackStored hs f i set h = storedOf (frontOf (ackedList hs i set h)) f
+
+-- what the step leaves: the reader's record as `nacked` has it, the list and the flow record where that is done
+abbrev pub ackLeft : Left2 AckNacked (List ℕ) (List ℕ) → Woken → WriterSendBuffer → List ReaderHead → List ReaderHead → Left4 AckTold (List ReaderHead) WriterSendBuffer (List ℕ) (List ℕ)
+ackLeft nacked w f old new =
     record {
-      result = firstAnswer (s .answer ∷ agreeOf (foundOf hs i) h ∷ ackOf hs (record { id = i; acked = s .acked }) .result ∷ []);
-      first = ackOf hs (record { id = i; acked = s .acked }) .first;
+      result = record { told = after (nacked .result .answer) w f .told; «left_out» = nacked .result .«left_out»; proxy = nacked .result .proxy };
+      first = listed (after (nacked .result .answer) w f) old new;
+      second = after (nacked .result .answer) w f .flow;
+      third = nacked .first;
+      fourth = nacked .second;
     }
 
--- then the record, unless the step is refused
-abbrev pub takenOf : Woken → SequenceNumberSet → SequenceNumber → ReaderProxy → List ℕ → List ℕ → Left2 AckStep (List ℕ) (List ℕ)
-takenOf w set last h unsent gaps =
-    cond (isDone (w .told .answer))
-    (record {
-      result = record { woken = w; «left_out» = ackNackedOf set last h unsent gaps .result .«left_out»; proxy = ackNackedOf set last h unsent gaps .result .proxy };
-      first = ackNackedOf set last h unsent gaps .first;
-      second = ackNackedOf set last h unsent gaps .second;
-    })
-    (record { result = record { woken = w; «left_out» = 0; proxy = h }; first = unsent; second = gaps })
-
--- the list and the flow record, as the ACKNACK leaves them
-abbrev pub ackListStep : List ReaderHead → WriterSendBuffer → ℕ → SequenceNumberSet → ReaderProxy → List ℕ → List ℕ → Left1 Woken (List ReaderHead)
-ackListStep hs f i set h unsent gaps = listStep hs f (ackList hs i h (foreseenOf set (f .last) h unsent gaps))
-
-abbrev pub ackStep : List ReaderHead → WriterSendBuffer → ℕ → SequenceNumberSet → ReaderProxy → List ℕ → List ℕ → Left3 AckStep (List ReaderHead) (List ℕ) (List ℕ)
+-- 1, 3, 2, 11 and 12 by the table; then what storing the frontier is answered
+abbrev pub ackStep : List ReaderHead → WriterSendBuffer → ℕ → SequenceNumberSet → ReaderProxy → List ℕ → List ℕ → Left4 AckTold (List ReaderHead) WriterSendBuffer (List ℕ) (List ℕ)
 ackStep hs f i set h unsent gaps =
+    ackLeft (ackNackedAmong (besideAck f (foundOf hs i) h) (ackStored hs f i set h .told .answer) set (f .last) h unsent gaps) (ackStored hs f i set h) f hs (ackedList hs i set h)
+
+-- WITHIN: what is decided of one walk over the list
+
+abbrev pub ackPut : SequenceNumberSet → ReaderProxy → Seen → Put
+ackPut set h s = ackedEnd (asking (ackedBy set h) s)
+
+abbrev pub ackAhead : WriterSendBuffer → SequenceNumberSet → ReaderProxy → Seen → Woken
+ackAhead f set h s = storedOf (frontWith (ackPut set h s) (asking (ackedBy set h) s)) f
+
+abbrev pub ackSettledBy : Settled → Left2 AckNacked (List ℕ) (List ℕ) → Left2 AckSettled (List ℕ) (List ℕ)
+ackSettledBy d n =
     record {
-      result = takenOf (ackListStep hs f i set h unsent gaps .result) set (f .last) h unsent gaps .result;
-      first = ackListStep hs f i set h unsent gaps .first;
-      second = takenOf (ackListStep hs f i set h unsent gaps .result) set (f .last) h unsent gaps .first;
-      third = takenOf (ackListStep hs f i set h unsent gaps .result) set (f .last) h unsent gaps .second;
+      result = record { answered = record { told = d .told; «left_out» = n .result .«left_out»; proxy = n .result .proxy }; at = d .at; head = d .head; flow = d .flow };
+      first = n .first;
+      second = n .second;
     }
 
--- as the structs that the calls return
-abbrev pub taken64 : Left3 AckStep (List ReaderHead) (List ℕ) (List ℕ) → Left2 AckTaken64 (List ℕ) (List ℕ)
-taken64 o = record { result = record { step = o .result; heads = o .first }; first = o .second; second = o .third }
+abbrev pub ackTaken : WriterSendBuffer → ReaderProxy → List ℕ → List ℕ → SequenceNumberSet → Seen → Left2 AckNacked (List ℕ) (List ℕ)
+ackTaken f h unsent gaps set s = ackNackedAmong (besideAck f (foundEnd s) h) (ackAhead f set h s .told .answer) set (f .last) h unsent gaps
 
-abbrev pub taken2 : Left3 AckStep (List ReaderHead) (List ℕ) (List ℕ) → Left2 AckTaken2 (List ℕ) (List ℕ)
-taken2 o = record { result = record { step = o .result; heads = o .first }; first = o .second; second = o .third }
+abbrev pub ackSettled : WriterSendBuffer → ReaderProxy → List ℕ → List ℕ → SequenceNumberSet → Seen → Left2 AckSettled (List ℕ) (List ℕ)
+ackSettled f h unsent gaps set s =
+    ackSettledBy (settledOf (after (ackTaken f h unsent gaps set s .result .answer) (ackAhead f set h s) f) (ackPut set h s)) (ackTaken f h unsent gaps set s)

@@ -1,6 +1,7 @@
 -- The definitions of `writer_steps`.
-pub mod Answers
 pub mod Send
 pub mod Readers
 pub mod Acks
-pub mod Write
+pub mod Frags
+pub mod Two
+pub mod Many

@@ -1,58 +1,77 @@
 -- The writer "stores the frontier after each match, departure and accepted ACKNACK". Assumes nothing.
 use Prim.Native.Nat.{ℕ}
-use mathlib.Core.Bool.{cond}
+use mathlib.Core.Bool.{not, cond}
 use mathlib.Core.List.{List, [], _∷_}
 use Rattle.numbers.specs.Number.{rankOf}
-use Rattle.numbers.specs.Refusals.{done, isDone}
-use Rattle.numbers.specs.Promise.{Left1}
+use Rattle.numbers.specs.Refusals.{row, rowsOf, answerOf, isDone}
+use Rattle.numbers.specs.Answers.{earlier, answered}
+use Rattle.numbers.specs.Promise.{Left1, Left2}
 use Rattle.numbers.specs.declared.answer.Answer.{Answer}
+use Rattle.numbers.specs.declared.answer.Rows.{Rows}
 use Rattle.reader_list.specs.declared.heads.ReaderHead.{ReaderHead}
 use Rattle.reader_list.specs.declared.calls.Front.{Front}
 use Rattle.reader_list.specs.declared.calls.Match.{Match}
+use Rattle.reader_list.specs.declared.ends.Put.{Put}
+use Rattle.reader_list.specs.declared.walk.Seen.{Seen}
 use Rattle.reader_list.specs.Slots.{frontOf, matchOf, departOf}
+use Rattle.reader_list.specs.Walk.{matchEnd, departEnd, frontWith}
 use Rattle.writer_send_buffer.specs.declared.flow.WriterSendBuffer.{WriterSendBuffer}
+use Rattle.writer_send_buffer.specs.declared.flow.Told.{Told}
 use Rattle.writer_send_buffer.specs.declared.frontiers.Woken.{Woken}
-use Rattle.writer_send_buffer.specs.Buffer.{ackedOf, toldNo}
-use Rattle.writer_steps.specs.declared.readers.Listed64.{Listed64}
-use Rattle.writer_steps.specs.declared.readers.Listed2.{Listed2}
-use Rattle.writer_steps.specs.Answers.{stepped}
+use Rattle.writer_send_buffer.specs.Buffer.{isCoherent, ackedOf, toldNo, woken}
+use Rattle.writer_steps.specs.declared.stores.Settled.{Settled}
 
--- the answers of what changes the list, of the frontier asked for, and of its storing
-abbrev pub storeAnswers : Answer → Front → WriterSendBuffer → List Answer
-storeAnswers before front f = before ∷ front .answer ∷ ackedOf f (front .frontier) .result .answer ∷ []
+-- refused, with the flow record as it was
+abbrev pub notStored : WriterSendBuffer → Answer → Woken
+notStored f a = record { told = toldNo a; flow = f }
 
--- the frontier of the changed list stored
-abbrev pub storedOf : Answer → Front → WriterSendBuffer → Woken
-storedOf before front f =
-    stepped (storeAnswers before front f)
-    (λ a. record { told = toldNo a; flow = f })
-    (record { told = record { answer = done; yes = ackedOf f (front .frontier) .result .yes }; flow = ackedOf f (front .frontier) .first })
+-- the frontier of a list stored
+abbrev pub storedOf : Front → WriterSendBuffer → Woken
+storedOf front f = answered (front .answer) (notStored f) (woken (ackedOf f (front .frontier)))
+
+-- whether the flow record that is lent is coherent (1) is asked with the rest, in the table's order
+abbrev pub flowRows : WriterSendBuffer → Rows
+flowRows f = rowsOf (row 1 (not (isCoherent f)) ∷ [])
+
+abbrev pub withFlow : Answer → WriterSendBuffer → Answer
+withFlow a f = earlier a (answerOf (flowRows f))
+
+-- after a call that is answered so: where it is refused, nothing is stored, and it is the call's number that is given
+abbrev pub after : Answer → Woken → WriterSendBuffer → Woken
+after a w f = answered a (notStored f) w
 
 -- the list, changed where the step is done
 abbrev pub listed : Woken → List ReaderHead → List ReaderHead → List ReaderHead
 listed w old new = cond (isDone (w .told .answer)) new old
 
--- a change of the list, with the frontier stored in the same step
-abbrev pub listStep : List ReaderHead → WriterSendBuffer → Left1 Answer (List ReaderHead) → Left1 Woken (List ReaderHead)
-listStep hs f o =
-    record {
-      result = storedOf (o .result) (frontOf (o .first)) f;
-      first = listed (storedOf (o .result) (frontOf (o .first)) f) hs (o .first);
-    }
+-- what a step leaves: the answer and the wake, the list, the flow record
+abbrev pub stepLeaves : Woken → List ReaderHead → List ReaderHead → Left2 Told (List ReaderHead) WriterSendBuffer
+stepLeaves w old new = record { result = w .told; first = listed w old new; second = w .flow }
 
-abbrev pub matchStep : List ReaderHead → WriterSendBuffer → Match → Left1 Woken (List ReaderHead)
+-- a change of the list, with the frontier of the changed list stored in the same step
+abbrev pub listStep : List ReaderHead → WriterSendBuffer → Left1 Answer (List ReaderHead) → Left2 Told (List ReaderHead) WriterSendBuffer
+listStep hs f o = stepLeaves (after (withFlow (o .result) f) (storedOf (frontOf (o .first)) f) f) hs (o .first)
+
+abbrev pub matchStep : List ReaderHead → WriterSendBuffer → Match → Left2 Told (List ReaderHead) WriterSendBuffer
 matchStep hs f m = listStep hs f (matchOf hs m)
 
-abbrev pub departStep : List ReaderHead → WriterSendBuffer → ℕ → Left1 Woken (List ReaderHead)
+abbrev pub departStep : List ReaderHead → WriterSendBuffer → ℕ → Left2 Told (List ReaderHead) WriterSendBuffer
 departStep hs f i = listStep hs f (departOf hs i)
-
--- as the structs that the calls return
-abbrev pub listed64 : Left1 Woken (List ReaderHead) → Listed64
-listed64 o = record { woken = o .result; heads = o .first }
-
-abbrev pub listed2 : Left1 Woken (List ReaderHead) → Listed2
-listed2 o = record { woken = o .result; heads = o .first }
 
 -- the frontier that a flow record has stored; 0 stands for an absent one
 abbrev pub frontierIn : WriterSendBuffer → ℕ
 frontierIn f = cond (f .present) (rankOf (f .acked)) 0
+
+-- WITHIN: what is decided of one walk over the list: the answer, the slot to store, and the flow record
+
+abbrev pub settledOf : Woken → Put → Settled
+settledOf w p = record { told = w .told; at = cond (isDone (w .told .answer)) (p .at) 18446744073709551615; head = p .head; flow = w .flow }
+
+abbrev pub putSettled : WriterSendBuffer → Put → Seen → Settled
+putSettled f p s = settledOf (after (withFlow (p .answer) f) (storedOf (frontWith p s) f) f) p
+
+abbrev pub matchSettled : WriterSendBuffer → Seen → Settled
+matchSettled f s = putSettled f (matchEnd s) s
+
+abbrev pub departSettled : WriterSendBuffer → Seen → Settled
+departSettled f s = putSettled f (departEnd s) s

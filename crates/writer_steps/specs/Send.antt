@@ -15,7 +15,7 @@ use Rattle.writer_send_buffer.specs.declared.flow.WriterSendBuffer.{WriterSendB
 use Rattle.writer_send_buffer.specs.Flow.{retained}
 use Rattle.writer_send_buffer.specs.Buffer.{view, firstOf}
 use Rattle.writer_steps.specs.declared.send.Sent.{Sent}
-use Rattle.writer_steps.specs.Answers.{stepped}
+use Rattle.numbers.specs.Answers.{stepped}
 
 -- the first unsent number; 14 where nothing is unsent
 abbrev pub firstUnsent : ReaderProxy → List ℕ → NextNumber

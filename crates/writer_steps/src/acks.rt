@@ -1,86 +1,56 @@
-// An ACKNACK taken by reader id: the reader's record, its head's acked and the stored frontier move together.
+// An ACKNACK taken by reader id: the reader's record, its head's acked in the list and the stored frontier move together.
 ghost use mathlib.Core.Path.{_≡_};
-ghost use Rattle.numbers.specs.Promise.{Gives2};
-ghost use Rattle.writer_steps.specs.Acks.{foreseenOf, agreeOf, takenOf, ackStep, taken64, taken2};
-use crate::answers::earlier;
-use crate::readers::listed_2;
-use crate::readers::listed_64;
-use crate::readers::stored;
+ghost use Rattle.numbers.specs.Promise.{Gives2, Gives4};
+ghost use Rattle.writer_steps.specs.Acks.{ackedBy, thereFor, besideAck, ackSettled, ackStep};
+use crate::stores::after;
+use crate::stores::settle;
+use crate::stores::stored;
+use crate::stores::with_flow;
 use number_sets::SequenceNumberSet;
 use numbers::Answer;
 use numbers::Rows;
 use numbers::SequenceNumber;
+use numbers::answers::earlier;
 use numbers::arith::larger;
-use reader_list::Acked;
 use reader_list::Found;
 use reader_list::ReaderHead;
-use reader_list::arrays::frontier_in_2;
-use reader_list::arrays::frontier_in_64;
-use reader_list::arrays::lookup_in_2;
-use reader_list::arrays::lookup_in_64;
-use reader_list::arrays::set_acked_in_2;
-use reader_list::arrays::set_acked_in_64;
+use reader_list::ahead::asking;
+use reader_list::ahead::front_with;
+use reader_list::ahead::look_for;
+use reader_list::ends::acked_end;
+use reader_list::ends::found_end;
+use reader_list::walk::Seen;
 use rtps_reader_proxy::ReaderProxy;
-use writer_send_buffer::Woken;
+use writer_send_buffer::Told;
 use writer_send_buffer::WriterSendBuffer;
 
-// What the call on the reader's record will answer, and the acked that it will leave.
-pub struct Foreseen {
-    pub answer: Answer,
-    pub acked: SequenceNumber,
-}
-
-// The answer and the wake with the flow record, the requests left out, and the reader's head, as they then are.
-pub struct AckStep {
-    pub woken: Woken,
+// The answer and the wake, the requests left out, and the reader's head as it then is.
+#[repr(C)]
+pub struct AckTold {
+    pub told: Told,
     pub left_out: usize,
     pub proxy: ReaderProxy,
 }
 
-// The same with the list as it then is.
-pub struct AckTaken64 {
-    pub step: AckStep,
-    pub heads: [ReaderHead; 64],
+// The same with the slot to store, past the end for none, and the flow record as it then is.
+pub struct AckSettled {
+    pub answered: AckTold,
+    pub at: usize,
+    pub head: ReaderHead,
+    pub flow: WriterSendBuffer,
 }
 
-// The same with the list as it then is.
-pub struct AckTaken2 {
-    pub step: AckStep,
-    pub heads: [ReaderHead; 2],
-}
-
-fn foresee(
-    proxy: ReaderProxy,
-    unsent: &[u64],
-    gaps: &[u64],
-    set: SequenceNumberSet,
-    last: SequenceNumber,
-) -> Foreseen
-    ensures { λ r. ⌜ r ≡ foreseenOf set last proxy (now (unsent .entry)) (now (gaps .entry)) ⌝ }
+// The acked that the ACKNACK leaves, where it is taken.
+fn acked_by(set: SequenceNumberSet, proxy: ReaderProxy) -> SequenceNumber
+    ensures { λ r. ⌜ r ≡ ackedBy set proxy ⌝ }
 {
-    let base = set.base;
-    let bits = set.count;
-    let good = proxy.unsent_ok(unsent) & proxy.gaps_ok(gaps);
-    let within = last.within(9223372036854775806);
-    let end = last.rank();
-    let from = larger(base.rank(), 1);
-    let mut rows = Rows::none();
-    rows.incoherent = !good;
-    rows.bits = 256 < bits;
-    rows.range = base.is_negative() | !within;
-    rows.ahead = end + 1 < from;
-    let answer = Answer::of(rows);
-    if answer.number != 0 {
-        let acked = proxy.all_acked_before;
-        return Foreseen { answer, acked };
-    }
-    let acked = SequenceNumber::from_rank(larger(proxy.all_acked_before.rank(), from));
-    Foreseen { answer, acked }
+    let from = larger(set.base.rank(), 1);
+    SequenceNumber::from_rank(larger(proxy.all_acked_before.rank(), from))
 }
 
-// Whether a reader's head and its record agree on acked.
-fn agreement(found: Found, proxy: ReaderProxy) -> Answer
-    ensures { λ r. ⌜ r ≡ agreeOf found proxy ⌝ }
+// Whether the reader is there, and whether its head and its record agree on acked.
+fn there_for(found: Found, proxy: ReaderProxy) -> Answer
+    ensures { λ r. ⌜ r ≡ thereFor found proxy ⌝ }
 {
     let looked = found.answer;
     let head = found.head;
@@ -88,92 +58,71 @@ fn agreement(found: Found, proxy: ReaderProxy) -> Answer
     let other = proxy.all_acked_before.rank();
     let mut rows = Rows::none();
     rows.incoherent = (looked.number == 0) & !(one == other);
-    Answer::of(rows)
+    earlier(looked, Answer::of(rows))
 }
 
-// The record takes the ACKNACK, unless the step is refused.
-fn taken(
-    woken: Woken,
+// With it, whether the flow record is coherent.
+fn beside_ack(flow: WriterSendBuffer, found: Found, proxy: ReaderProxy) -> Answer
+    ensures { λ r. ⌜ r ≡ besideAck flow found proxy ⌝ }
+{
+    with_flow(there_for(found, proxy), flow)
+}
+
+// What an ACKNACK decides of the walk; the reader's record takes it, unless the step is refused.
+pub fn ack_settled(
+    flow: WriterSendBuffer,
     proxy: ReaderProxy,
     unsent: &mut [u64],
     gaps: &mut [u64],
     set: SequenceNumberSet,
-    last: SequenceNumber,
-) -> AckStep
-    ensures { λ r. ⌜ Gives2 r (now (unsent .exit)) (now (gaps .exit)) (takenOf woken set last proxy (now (unsent .entry)) (now (gaps .entry))) ⌝ }
+    seen: Seen,
+) -> AckSettled
+    ensures { λ r. ⌜ Gives2 r (now (unsent .exit)) (now (gaps .exit)) (ackSettled flow proxy (now (unsent .entry)) (now (gaps .entry)) set seen) ⌝ }
 {
+    let last = flow.last;
+    let beside = beside_ack(flow, found_end(seen), proxy);
+    let asked = asking(seen, acked_by(set, proxy));
+    let put = acked_end(asked);
+    let front = front_with(put, asked);
+    let woken = stored(front, flow);
     let told = woken.told;
-    let answer = told.answer;
-    if answer.number != 0 {
-        return AckStep {
-            woken,
-            left_out: 0,
-            proxy,
-        };
-    }
-    let nacked = proxy.handle_ack_nack(unsent, gaps, set, last);
-    let after = nacked.proxy;
-    AckStep {
-        woken,
-        left_out: nacked.left_out,
-        proxy: after,
+    let then = told.answer;
+    let nacked = proxy.handle_ack_nack_among(unsent, gaps, set, last, beside, then);
+    let moved = after(nacked.answer, woken, flow);
+    let s = settle(moved, put);
+    let said = s.told;
+    let proxy_after = nacked.proxy;
+    let head = s.head;
+    let flow_after = s.flow;
+    AckSettled {
+        answered: AckTold {
+            told: said,
+            left_out: nacked.left_out,
+            proxy: proxy_after,
+        },
+        at: s.at,
+        head,
+        flow: flow_after,
     }
 }
 
-pub fn take_ack_nack_in_64(
-    heads: [ReaderHead; 64],
-    flow: WriterSendBuffer,
+pub fn take_ack_nack(
+    list: &mut [ReaderHead],
+    flow: &mut WriterSendBuffer,
     proxy: ReaderProxy,
     unsent: &mut [u64],
     gaps: &mut [u64],
     id: u64,
     set: SequenceNumberSet,
-) -> AckTaken64
-    ensures { λ r. ⌜ Gives2 r (now (unsent .exit)) (now (gaps .exit)) (taken64 (ackStep heads flow id set proxy (now (unsent .entry)) (now (gaps .entry)))) ⌝ }
+) -> AckTold
+    ensures { λ r. ⌜ Gives4 r (now (list .exit)) (now (flow .exit)) (now (unsent .exit)) (now (gaps .exit)) (ackStep (now (list .entry)) (now (flow .entry)) id set proxy (now (unsent .entry)) (now (gaps .entry))) ⌝ }
 {
-    let last = flow.last;
-    let ahead = foresee(proxy, unsent, gaps, set, last);
-    let said = ahead.answer;
-    let acked = ahead.acked;
-    let found = lookup_in_64(heads, id);
-    let agreed = agreement(found, proxy);
-    let changed = set_acked_in_64(heads, Acked { id, acked });
-    let put = changed.answer;
-    let new = changed.heads;
-    let front = frontier_in_64(new);
-    let before = earlier(said, earlier(agreed, put));
-    let woken = stored(before, front, flow);
-    let listed = listed_64(woken, heads, new);
-    let after = listed.heads;
-    let step = taken(woken, proxy, unsent, gaps, set, last);
-    AckTaken64 { step, heads: after }
-}
-
-pub fn take_ack_nack_in_2(
-    heads: [ReaderHead; 2],
-    flow: WriterSendBuffer,
-    proxy: ReaderProxy,
-    unsent: &mut [u64],
-    gaps: &mut [u64],
-    id: u64,
-    set: SequenceNumberSet,
-) -> AckTaken2
-    ensures { λ r. ⌜ Gives2 r (now (unsent .exit)) (now (gaps .exit)) (taken2 (ackStep heads flow id set proxy (now (unsent .entry)) (now (gaps .entry)))) ⌝ }
-{
-    let last = flow.last;
-    let ahead = foresee(proxy, unsent, gaps, set, last);
-    let said = ahead.answer;
-    let acked = ahead.acked;
-    let found = lookup_in_2(heads, id);
-    let agreed = agreement(found, proxy);
-    let changed = set_acked_in_2(heads, Acked { id, acked });
-    let put = changed.answer;
-    let new = changed.heads;
-    let front = frontier_in_2(new);
-    let before = earlier(said, earlier(agreed, put));
-    let woken = stored(before, front, flow);
-    let listed = listed_2(woken, heads, new);
-    let after = listed.heads;
-    let step = taken(woken, proxy, unsent, gaps, set, last);
-    AckTaken2 { step, heads: after }
+    let seen = look_for(list, id);
+    let d = ack_settled(*flow, proxy, unsent, gaps, set, seen);
+    let at = d.at;
+    if at < list.len() {
+        list[at] = d.head;
+    }
+    *flow = d.flow;
+    d.answered
 }

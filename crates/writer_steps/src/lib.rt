@@ -1,12 +1,14 @@
 // What a server runs: the steps of the writer, each of several calls under one answer.
 pub mod acks;
-pub mod answers;
+pub mod frags;
+pub mod many;
 pub mod readers;
 pub mod send;
+pub mod stores;
+pub mod two;
 
-pub use acks::AckStep;
-pub use acks::AckTaken2;
-pub use acks::AckTaken64;
-pub use readers::Listed2;
-pub use readers::Listed64;
+pub use acks::AckTold;
+pub use many::SentMany;
 pub use send::Sent;
+pub use two::AckTaken2;
+pub use two::Listed2;

@@ -2,9 +2,9 @@
 ghost use mathlib.Core.Path.{_≡_};
 ghost use Rattle.numbers.specs.Promise.{Gives1};
 ghost use Rattle.writer_steps.specs.Send.{sendOf};
-use crate::answers::earlier;
 use numbers::Answer;
 use numbers::SequenceNumber;
+use numbers::answers::earlier;
 use rtps_reader_proxy::ReaderProxy;
 use writer_send_buffer::WriterSendBuffer;
 

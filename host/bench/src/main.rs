@@ -10,6 +10,7 @@ mod meter;
 mod readers;
 mod round;
 mod writers;
+mod writes;
 
 use meter::Meter;
 
@@ -24,6 +25,7 @@ fn main() {
     readers::fragments(&mut meter);
     writers::admission_and_fetch(&mut meter);
     lists::list_calls(&mut meter);
+    writes::told_to_all(&mut meter);
     round::clean_round(&mut meter);
     eprintln!("({})", meter.sink());
 }

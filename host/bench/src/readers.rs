@@ -186,44 +186,64 @@ pub fn batches(meter: &mut Meter) {
     }
 }
 
-/// The next fragment of 4,096, of which only the last, or the first, is asked
-/// for.
+/// One fragment of 4,096, the last or the first: asked for where nothing is,
+/// found as the next, and marked sent, which leaves nothing; then all three.
 pub fn fragments(meter: &mut Meter) {
     for fragment in [4096, 1] {
         let set = FragmentNumberSet::new(FragmentNumber(fragment), &[fragment.into()]);
         let set = set.expect("one number");
-        let mut library = library_reader(64, 0..0);
-        let sample = SequenceNumber(1);
-        library
-            .mark_frags_requested(sample, &set)
-            .expect("in range");
-        let mut crates = crate_reader(0..0);
-        crates.mark_frags_requested(1, set.base.0, set.count, set.words);
-
-        let name = format!("next fragment, only {} asked", fragment);
-        meter.row(
-            &name,
-            LIBRARY,
-            &vec![library.clone(); STATES],
-            1,
-            |reader| {
-                let next = reader.frags_requested_iterator().next();
-                next.expect("one").1 .0.into()
-            },
-        );
-        meter.row(&name, CRATE, &vec![crates.clone(); STATES], 1, |reader| {
-            reader.first_frag_requested().expect("one").1.into()
-        });
-
-        let name = format!("fragment {} marked sent", fragment);
-        meter.row(&name, LIBRARY, &vec![library; STATES], 1, |reader| {
-            let sent = FragmentNumber(fragment);
-            reader.mark_frag_sent(sample, sent).expect("any numbers");
+        let ask = |reader: &mut RtpsReaderProxy| -> u64 {
+            let asked = reader.mark_frags_requested(SequenceNumber(1), &set);
+            asked.expect("in range");
             0
-        });
-        meter.row(&name, CRATE, &vec![crates; STATES], 1, |reader| {
+        };
+        let next = |reader: &mut RtpsReaderProxy| -> u64 {
+            let next = reader.frags_requested_iterator().next();
+            next.expect("one").1 .0.into()
+        };
+        let mark = |reader: &mut RtpsReaderProxy| -> u64 {
+            let sent = reader.mark_frag_sent(SequenceNumber(1), FragmentNumber(fragment));
+            sent.expect("any numbers");
+            0
+        };
+        let crate_ask = |reader: &mut oracle::Reader| -> u64 {
+            reader.mark_frags_requested(1, set.base.0, set.count, set.words);
+            0
+        };
+        let crate_next = |reader: &mut oracle::Reader| -> u64 {
+            reader.first_frag_requested().expect("one").1.into()
+        };
+        let crate_mark = |reader: &mut oracle::Reader| -> u64 {
             reader.mark_frag_sent(1, fragment);
             0
+        };
+
+        let none = vec![library_reader(64, 0..0); STATES];
+        let mut one = none.clone();
+        for reader in &mut one {
+            ask(reader);
+        }
+        let crate_none = vec![crate_reader(0..0); STATES];
+        let mut crate_one = crate_none.clone();
+        for reader in &mut crate_one {
+            crate_ask(reader);
+        }
+
+        let name = format!("fragment {} asked for", fragment);
+        meter.row(&name, LIBRARY, &none, 1, ask);
+        meter.row(&name, CRATE, &crate_none, 1, crate_ask);
+        let name = format!("next fragment, only {} asked", fragment);
+        meter.row(&name, LIBRARY, &one, 1, next);
+        meter.row(&name, CRATE, &crate_one, 1, crate_next);
+        let name = format!("fragment {} marked sent", fragment);
+        meter.row(&name, LIBRARY, &one, 1, mark);
+        meter.row(&name, CRATE, &crate_one, 1, crate_mark);
+        let name = format!("fragment {} asked for, next, marked", fragment);
+        meter.row(&name, LIBRARY, &none, 1, |reader| {
+            ask(reader) + next(reader) + mark(reader)
+        });
+        meter.row(&name, CRATE, &crate_none, 1, |reader| {
+            crate_ask(reader) + crate_next(reader) + crate_mark(reader)
         });
     }
 }

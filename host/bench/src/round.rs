@@ -1,6 +1,6 @@
 //! A clean round with 64 readers, each of which lacks the last 8 of 32 samples:
-//! its ACKNACK, what it asked for sent, its second ACKNACK; the frontier stored
-//! after each ACKNACK.
+//! its ACKNACK, what it asked for sent (by the library's step for many), its
+//! second ACKNACK; the frontier stored after each ACKNACK.
 
 use sintemuno::{Kind, Limits, Sent, SequenceNumber, SequenceNumberSet, Writer};
 
@@ -50,7 +50,7 @@ fn library_writer(cap: usize) -> Writer {
     let last = SequenceNumber(WRITTEN);
     writer.set_sent_frontier(last).expect("written");
     for id in 1..=READERS {
-        while writer.send_first(id).is_ok() {}
+        while writer.send_many(id, Writer::MOST_SENT).is_ok() {}
     }
     writer
 }
@@ -60,7 +60,8 @@ fn library_round(writer: &mut Writer, set: &SequenceNumberSet) -> u64 {
     let all = SequenceNumberSet::empty(SequenceNumber(WRITTEN + 1));
     for id in 1..=READERS {
         writer.handle_ack_nack(id, set).expect("taken");
-        while let Ok(sent) = writer.send_first(id) {
+        // All that is unsent: fewer than a call can send.
+        for sent in writer.send_many(id, Writer::MOST_SENT).expect("unsent") {
             sum += match sent {
                 Sent::Data(_, bytes) => bytes.len() as u64,
                 Sent::Gap(_) => 1,

@@ -13,6 +13,7 @@ pub mod other_end;
 pub mod raw;
 pub mod reader;
 pub mod set;
+pub mod steps;
 pub mod store;
 pub mod trace;
 pub mod writer;

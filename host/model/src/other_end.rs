@@ -5,7 +5,8 @@ use std::collections::BTreeSet;
 use crate::{
     numbers::{Answer, Refusal},
     set::NumberSet,
-    writer::{Sent, Writer},
+    steps::Sent,
+    writer::Writer,
 };
 
 #[derive(Clone, PartialEq, Eq, Debug, Default)]

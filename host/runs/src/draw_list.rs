@@ -7,7 +7,7 @@ use model::{
 
 use crate::{calls::ListCall, draw_any::Near, prng::Prng};
 
-fn id(prng: &mut Prng) -> u64 {
+pub fn id(prng: &mut Prng) -> u64 {
     match prng.below(12) {
         0 => prng.pick(&[0, 65, u64::MAX >> 1, u64::MAX]),
         1..=4 => prng.below(70),

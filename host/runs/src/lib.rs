@@ -22,6 +22,8 @@ pub mod raw;
 pub mod reader_faults;
 pub mod replay;
 pub mod sight;
+pub mod step_faults;
+pub mod steps;
 pub mod subject;
 pub mod trace_lines;
 pub mod writer_faults;

@@ -5,9 +5,12 @@
 //! The model knows coherent records only; here stands what document 01 and
 //! docs/DECISIONS.md say about the others: they get 1 and stay as they are.
 
+mod by_id;
 mod list;
+mod many;
 mod reader;
 mod sets;
+mod side_by_side;
 mod writer;
 
 use std::collections::BTreeMap;
@@ -15,7 +18,10 @@ use std::collections::BTreeMap;
 use model::{Answer, Refusal};
 use sintemuno::ffi;
 
-use crate::prng::Prng;
+use crate::{
+    prng::Prng,
+    steps::{Sound, Steps},
+};
 
 /// How often each entry gave each answer.
 pub type Tally = BTreeMap<&'static str, BTreeMap<u32, u64>>;
@@ -23,17 +29,42 @@ pub type Tally = BTreeMap<&'static str, BTreeMap<u32, u64>>;
 /// Calls on one drawn record.
 const CALLS_PER_WORLD: u64 = 8;
 
+/// How many entries the library has.
+const ENTRIES: u64 = 43;
+
 pub fn run(seed: u64, calls: u64) -> Result<Tally, String> {
+    worlds(seed, calls, |prng, tally| match prng.below(ENTRIES) {
+        // So many of the entries each.
+        0..=14 => reader::world(prng, tally),
+        15..=20 => sets::world(prng, tally),
+        21..=31 => writer::world(prng, tally),
+        32..=36 => list::world(prng, tally),
+        _ => step_world(&Sound, prng, tally),
+    })
+}
+
+/// The steps alone, which may be faulty ones.
+pub fn run_steps(steps: &impl Steps, seed: u64, calls: u64) -> Result<Tally, String> {
+    worlds(seed, calls, |prng, tally| step_world(steps, prng, tally))
+}
+
+fn step_world(steps: &impl Steps, prng: &mut Prng, tally: &mut Tally) -> Result<(), String> {
+    match prng.below(6) {
+        0..=3 => by_id::world(steps, prng, tally),
+        4 => side_by_side::world(steps, prng, tally),
+        _ => many::world(steps, prng, tally),
+    }
+}
+
+fn worlds(
+    seed: u64,
+    calls: u64,
+    draw: impl Fn(&mut Prng, &mut Tally) -> Result<(), String>,
+) -> Result<Tally, String> {
     let mut tally = Tally::new();
     for world in 0..(calls + CALLS_PER_WORLD - 1) / CALLS_PER_WORLD {
         let mut prng = Prng::of_world(seed, world);
-        // So many of 37 entries each.
-        let result = match prng.below(37) {
-            0..=15 => reader::world(&mut prng, &mut tally),
-            16..=21 => sets::world(&mut prng, &mut tally),
-            22..=31 => writer::world(&mut prng, &mut tally),
-            _ => list::world(&mut prng, &mut tally),
-        };
+        let result = draw(&mut prng, &mut tally);
         result.map_err(|e| format!("world {} of seed {}: {}", world, seed, e))?;
     }
     Ok(tally)

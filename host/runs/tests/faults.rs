@@ -1,11 +1,14 @@
 //! Every faulty library, made from the model and from the proved one, is caught, beside the crate wherever the compared range
-//! can show the fault, and always against the model.
+//! can show the fault, and always against the model; and so is every faulty step of the proved one.
 
 use runs::{
     against, beside,
     faults::{CaughtBy, Faulty, LIST_FAULTS, READER_FAULTS, WRITER_FAULTS},
     library_subject::Library,
     model_subject::Model,
+    raw,
+    step_faults::{FaultySteps, STEP_FAULTS},
+    steps::Sound,
     subject::Subjects,
 };
 
@@ -71,6 +74,15 @@ fn list_faults_and_creation<S: Subjects + Clone + Default>() {
         ..Faulty::<S>::default()
     };
     check("never 13".to_string(), &faulty, CaughtBy::ModelOnly);
+}
+
+#[test]
+fn faults_of_steps() {
+    assert!(raw::run_steps(&Sound, 5, calls()).is_ok());
+    for fault in STEP_FAULTS {
+        let run = raw::run_steps(&FaultySteps(fault), 5, calls());
+        assert!(run.is_err(), "{:?}", fault);
+    }
 }
 
 macro_rules! faults_in {

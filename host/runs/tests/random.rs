@@ -43,7 +43,7 @@ fn the_library_against_the_model() {
 }
 
 /// The entries, and the numbers that each can answer besides 0.
-const ENTRIES: [(&str, &[u32]); 37] = [
+const ENTRIES: [(&str, &[u32]); 43] = [
     ("reader_new", &[13]),
     ("reader_first_unsent_change", &[1, 14]),
     ("reader_next_unsent_change", &[1, 14]),
@@ -81,6 +81,12 @@ const ENTRIES: [(&str, &[u32]); 37] = [
     ("list_matched_reader_remove", &[1, 11]),
     ("list_set_acked", &[1, 2, 11]),
     ("send_first", &[1, 14]),
+    ("send_many", &[1, 14]),
+    ("match_reader", &[1, 2, 8, 11, 13]),
+    ("depart_reader", &[1, 2, 11]),
+    ("take_ack_nack", &[1, 2, 3, 11, 12]),
+    ("take_nack_frag", &[1, 2, 3, 10, 11]),
+    ("write", &[1, 4, 5, 6, 7]),
 ];
 
 #[test]

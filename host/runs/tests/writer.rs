@@ -1,7 +1,9 @@
 //! The Rust crate's `Writer`, all of its steps, against the model's: every
 //! answer and the whole state after each call.
 
-use model::{numbers::LAST_SAMPLE, writer::Sent as Judged, Kind, Limits, SendBuffer};
+use std::fmt::Debug;
+
+use model::{numbers::LAST_SAMPLE, steps::Sent as Judged, Kind, Limits, SendBuffer};
 use runs::{beside::same, draw_any, draw_list, forms, prng::Prng};
 use sintemuno::{FragmentNumber, Refusal, Sent, SequenceNumber, Writer};
 
@@ -46,7 +48,7 @@ fn judged<T>(answer: model::Answer<T>) -> Result<T, u32> {
     answer.map_err(|refusal| u32::from(refusal.number()))
 }
 
-/// The readers' records, heads and buffers, through what the crate shows.
+/// The list, the buffer and the readers' records, through what the crate shows.
 fn state(pair: &Pair) -> Result<(), String> {
     let (subject, judge) = (&pair.subject, &pair.judge);
     let list = forms::slots_view(subject.readers().slots());
@@ -63,6 +65,11 @@ fn state(pair: &Pair) -> Result<(), String> {
         let bytes = judge.buffer.get(n).ok();
         same(&n, buffer.get_by_sn(SequenceNumber(n)), bytes)?;
     }
+    records(subject, judge)
+}
+
+/// What the crate shows of each reader, and which are there.
+fn records(subject: &Writer, judge: &model::Writer) -> Result<(), String> {
     for (id, record) in &judge.records {
         let proxy = subject.reader(*id).map_err(|e| e.to_string())?;
         same(id, proxy.acked_up_to_before().0, record.acked)?;
@@ -76,11 +83,32 @@ fn state(pair: &Pair) -> Result<(), String> {
         let first = first.map_or(Vec::new(), |(n, fs)| fs.iter().map(|f| (*n, *f)).collect());
         same(id, asked, first)?;
         same(id, proxy.repair_frags_requested(), !record.frags.is_empty())?;
+        let count = proxy.unsent_changes_count();
+        same(id, count, record.unsent.len())?;
+        let first = proxy.first_unsent_change().map(i64::from);
+        same(id, first, record.unsent.iter().next().copied())?;
+        same(id, proxy.get_pending_gap().count(), 0)?;
+    }
+    for id in 0..=READERS as u64 + 1 {
+        let there = subject.reader(id).map(|_| ()).map_err(Refusal::number);
+        let known = judge.records.contains_key(&id);
+        same(&id, there, if known { Ok(()) } else { Err(11) })?;
     }
     Ok(())
 }
 
-fn step(prng: &mut Prng, pair: &mut Pair) -> Result<(), String> {
+/// Whether the call was refused, where both answer the same.
+fn compared<T: PartialEq + Debug>(
+    call: &impl Debug,
+    got: Result<T, u32>,
+    expected: Result<T, u32>,
+) -> Result<bool, String> {
+    let refused = got.is_err();
+    same(call, got, expected)?;
+    Ok(refused)
+}
+
+fn step(prng: &mut Prng, pair: &mut Pair) -> Result<bool, String> {
     let near = draw_any::Near(pair.judge.buffer.flow.last);
     let any = if prng.one_in(12) {
         prng.pick(&[i64::MIN, -1, 0, LAST_SAMPLE, i64::MAX])
@@ -89,65 +117,76 @@ fn step(prng: &mut Prng, pair: &mut Pair) -> Result<(), String> {
     };
     let id = prng.below(READERS as u64 + 2);
     let (subject, judge) = (&mut pair.subject, &mut pair.judge);
-    match prng.below(12) {
+    match prng.below(14) {
         0 => {
             let reliable = prng.coin();
             let expected = judged(judge.match_reader(id, reliable, pair.cap));
-            same(
-                &"match",
-                number(subject.matched_reader_add(id, reliable)),
-                expected,
-            )
+            let got = number(subject.matched_reader_add(id, reliable));
+            compared(&"match", got, expected)
         }
         1 => {
             let got = number(subject.matched_reader_remove(id));
-            same(&"departure", got, judged(judge.depart(id)))
+            compared(&"departure", got, judged(judge.depart(id)))
         }
         2..=4 => {
             let bytes = vec![prng.next() as u8; prng.below(6) as usize];
             let opted = prng.coin();
             let got = number(subject.write(opted, &bytes)).map(|n| n.0);
-            same(&"write", got, judged(judge.write(opted, &bytes)))
+            compared(&"write", got, judged(judge.write(opted, &bytes)))
         }
         5..=6 => {
             let mut set = draw_any::number_set(prng, near);
             set.base = any;
             let got = number(subject.handle_ack_nack(id, &forms::number_set(&set)));
             let got = got.map(|a| (a.left_out as u64, a.wake));
-            same(&("ack", set), got, judged(judge.take_ack(id, &set)))
+            compared(&("ack", set), got, judged(judge.take_ack(id, &set)))
         }
-        7..=8 => {
-            let got = number(subject.send_first(id)).map(|sent| match sent {
-                Sent::Data(n, bytes) => Judged::Data(n.0, bytes.to_vec()),
-                Sent::Gap(n) => Judged::Gap(n.0),
-            });
-            same(&"send", got, judged(judge.send_step(id)))
-        }
-        9 => {
-            let got = number(subject.mark_change_sent(id, SequenceNumber(any)));
-            same(&("sent", any), got, judged(judge.mark_sent(id, any)))
-        }
+        7..=9 => sends(prng, pair, id),
         10 => {
-            let set = draw_any::fragment_set(prng);
-            let lent = forms::fragment_set(&set);
-            let got = number(subject.mark_frags_requested(id, SequenceNumber(any), &lent));
-            let expected = judged(judge.request_fragments(id, any, &set));
-            same(&("frag", any, set), got, expected)?;
-            let fragment = draw_any::fragment(prng);
-            if let Some(record) = judge.records.get_mut(&id) {
-                judged(record.mark_frag_sent(any, fragment)).unwrap();
-                let sent = FragmentNumber(fragment);
-                subject
-                    .mark_frag_sent(id, SequenceNumber(any), sent)
-                    .unwrap();
-            }
-            Ok(())
+            let got = number(subject.mark_change_sent(id, SequenceNumber(any)));
+            compared(&("sent", any), got, judged(judge.mark_sent(id, any)))
         }
+        11..=12 => fragments(prng, pair, id, any),
         _ => {
             let got = number(subject.remove_changes_before(SequenceNumber(any)));
-            same(&("evict", any), got, judged(judge.buffer.evict_before(any)))
+            compared(&("evict", any), got, judged(judge.buffer.evict_before(any)))
         }
     }
+}
+
+fn sends(prng: &mut Prng, pair: &mut Pair, id: u64) -> Result<bool, String> {
+    let (subject, judge) = (&mut pair.subject, &mut pair.judge);
+    let form = |sent: Sent| match sent {
+        Sent::Data(n, bytes) => Judged::Data(n.0, bytes.to_vec()),
+        Sent::Gap(n) => Judged::Gap(n.0),
+    };
+    if prng.coin() {
+        let got = number(subject.send_first(id)).map(form);
+        return compared(&"send", got, judged(judge.send_step(id)));
+    }
+    let most = prng.pick(&[0, 1, 2, 3, 256, 1000]);
+    let got = number(subject.send_many(id, most)).map(|sent| sent.map(form).collect());
+    let expected = judged(judge.send_many(id, most.min(256)));
+    compared(&("send many", most), got, expected)
+}
+
+fn fragments(prng: &mut Prng, pair: &mut Pair, id: u64, sample: i64) -> Result<bool, String> {
+    let (subject, judge) = (&mut pair.subject, &mut pair.judge);
+    let number_of = SequenceNumber(sample);
+    if prng.coin() {
+        let set = draw_any::fragment_set(prng);
+        let lent = forms::fragment_set(&set);
+        let got = number(subject.mark_frags_requested(id, number_of, &lent));
+        let expected = judged(judge.request_fragments(id, sample, &set));
+        return compared(&("frag", sample, set), got, expected);
+    }
+    let fragment = draw_any::fragment(prng);
+    let got = number(subject.mark_frag_sent(id, number_of, FragmentNumber(fragment)));
+    let expected = match judge.records.get_mut(&id) {
+        Some(record) => judged(record.mark_frag_sent(sample, fragment)),
+        None => Err(11),
+    };
+    compared(&("frag sent", sample, fragment), got, expected)
 }
 
 #[test]
@@ -156,7 +195,13 @@ fn the_writer_against_the_model() {
         let mut prng = Prng::of_world(11, world);
         let mut pair = pair(&mut prng);
         for _ in 0..CALLS_PER_WORLD {
-            let outcome = step(&mut prng, &mut pair).and_then(|()| state(&pair));
+            let before = pair.subject.clone();
+            let outcome = step(&mut prng, &mut pair).and_then(|refused| {
+                if refused {
+                    same(&"refused", &pair.subject, &before)?;
+                }
+                state(&pair)
+            });
             outcome.unwrap_or_else(|e| panic!("world {}: {}", world, e));
         }
     }

@@ -320,8 +320,123 @@ pub fn list_set_acked(list: &mut [ReaderHead], a: Acked) -> Answer {
     unsafe { entries::sintemuno_list_set_acked(list.as_mut_ptr(), list.len(), a) }
 }
 
-// the send step
+// the steps
+
+pub fn match_reader(list: &mut [ReaderHead], flow: &mut WriterSendBuffer, m: Match) -> Told {
+    unsafe { entries::sintemuno_match_reader(list.as_mut_ptr(), list.len(), flow, m) }
+}
+
+pub fn depart_reader(list: &mut [ReaderHead], flow: &mut WriterSendBuffer, id: u64) -> Told {
+    unsafe { entries::sintemuno_depart_reader(list.as_mut_ptr(), list.len(), flow, id) }
+}
+
+pub fn take_ack_nack(
+    list: &mut [ReaderHead],
+    flow: &mut WriterSendBuffer,
+    proxy: ReaderProxy,
+    unsent: &mut [u64],
+    gaps: &mut [u64],
+    id: u64,
+    set: SequenceNumberSet,
+) -> AckTold {
+    unsafe {
+        entries::sintemuno_take_ack_nack(
+            list.as_mut_ptr(),
+            list.len(),
+            flow,
+            proxy,
+            unsent.as_mut_ptr(),
+            unsent.len(),
+            gaps.as_mut_ptr(),
+            gaps.len(),
+            id,
+            set,
+        )
+    }
+}
+
+pub fn take_nack_frag(
+    list: &[ReaderHead],
+    proxy: ReaderProxy,
+    samples: &mut [u64],
+    words: &mut [u64],
+    id: u64,
+    number: SequenceNumber,
+    set: FragmentNumberSet,
+) -> Changed {
+    unsafe {
+        entries::sintemuno_take_nack_frag(
+            list.as_ptr(),
+            list.len(),
+            proxy,
+            samples.as_mut_ptr(),
+            samples.len(),
+            words.as_mut_ptr(),
+            words.len(),
+            id,
+            number,
+            set,
+        )
+    }
+}
+
+pub fn write(
+    flow: &mut WriterSendBuffer,
+    store: &mut [u8],
+    lens: &mut [u64],
+    payload: &[u8],
+    opted: bool,
+    proxies: &mut [ReaderProxy],
+    unsent: &mut [u64],
+) -> Numbered {
+    unsafe {
+        entries::sintemuno_write(
+            flow,
+            store.as_mut_ptr(),
+            store.len(),
+            lens.as_mut_ptr(),
+            lens.len(),
+            payload.as_ptr(),
+            payload.len(),
+            opted,
+            proxies.as_mut_ptr(),
+            proxies.len(),
+            unsent.as_mut_ptr(),
+            unsent.len(),
+        )
+    }
+}
 
 pub fn send_first(flow: WriterSendBuffer, proxy: ReaderProxy, unsent: &mut [u64]) -> Sent {
     unsafe { entries::sintemuno_send_first(flow, proxy, unsent.as_mut_ptr(), unsent.len()) }
+}
+
+#[allow(clippy::too_many_arguments)]
+pub fn send_many(
+    flow: WriterSendBuffer,
+    room: usize,
+    lens: &[u64],
+    proxy: ReaderProxy,
+    unsent: &mut [u64],
+    numbers: &mut [u64],
+    starts: &mut [u64],
+    lengths: &mut [u64],
+) -> SentMany {
+    unsafe {
+        entries::sintemuno_send_many(
+            flow,
+            room,
+            lens.as_ptr(),
+            lens.len(),
+            proxy,
+            unsent.as_mut_ptr(),
+            unsent.len(),
+            numbers.as_mut_ptr(),
+            numbers.len(),
+            starts.as_mut_ptr(),
+            starts.len(),
+            lengths.as_mut_ptr(),
+            lengths.len(),
+        )
+    }
 }

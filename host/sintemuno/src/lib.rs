@@ -7,9 +7,10 @@
 //! The types own the rooms that the library is lent. They are allocated when a
 //! value is made; no other call allocates, blocks or panics.
 //!
-//! A whole server needs a [`Writer`]. The parts can be had alone:
-//! [`RtpsReaderProxy`], [`WriterSendBuffer`], [`ReaderList`]. What can't be done
-//! is an `Err` with document 01's number, and has changed nothing.
+//! A whole server needs a [`Writer`]; it decides nothing, and each event is one
+//! step of the library. The parts can be had alone: [`RtpsReaderProxy`],
+//! [`WriterSendBuffer`], [`ReaderList`]. What can't be done is an `Err` with
+//! document 01's number, and has changed nothing.
 //!
 //! ```
 //! use sintemuno::{Kind, Limits, Sent, SequenceNumber, SequenceNumberSet, Writer};
@@ -59,7 +60,17 @@
 //!
 //! `docs/DIFFERENCES.md` says where the answers differ, with the smallest input
 //! for each. A [`Writer`] is the loop around the two files that the crate has
-//! in its own writer.
+//! in its own writer:
+//!
+//! | event | here, on [`Writer`] | step of the library |
+//! |---|---|---|
+//! | a match, a departure | `matched_reader_add`, `matched_reader_remove` | `match_reader`, `depart_reader`: the frontier is stored with it |
+//! | a write | `write` | `write`: every reader is told |
+//! | an ACKNACK | `handle_ack_nack` | `take_ack_nack`: the record, the list and the frontier together |
+//! | a NACK_FRAG | `mark_frags_requested` | `take_nack_frag` |
+//! | sending | `send_first`, `send_many` | the same |
+//! | something went out | `set_sent_frontier`, `mark_change_sent`, `mark_frag_sent` | the calls of that name |
+//! | what a reader lacks | `reader`, which gives a [`ReaderView`] | the reader's questions |
 #![deny(unsafe_code)]
 #![warn(missing_docs)]
 
@@ -67,8 +78,12 @@
 pub mod ffi;
 mod numbers;
 mod reader_list;
+mod reader_view;
+mod record;
+mod records;
 mod refusal;
 mod rtps_reader_proxy;
+mod sent;
 mod writer;
 mod writer_send_buffer;
 
@@ -76,7 +91,9 @@ pub use ffi::{
     FragmentNumber, FragmentNumberSet, Kind, Limits, ReaderHead, SequenceNumber, SequenceNumberSet,
 };
 pub use reader_list::ReaderList;
+pub use reader_view::ReaderView;
 pub use refusal::{Refusal, Result};
 pub use rtps_reader_proxy::RtpsReaderProxy;
-pub use writer::{Acknowledged, Sent, Writer};
+pub use sent::{Sent, SentMany};
+pub use writer::{Acknowledged, Writer};
 pub use writer_send_buffer::WriterSendBuffer;

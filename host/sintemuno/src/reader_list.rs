@@ -9,7 +9,7 @@ use crate::{
 /// each has acknowledged. It owns its slots, made by `new`; no call allocates.
 #[derive(Clone, PartialEq, Eq, Debug)]
 pub struct ReaderList {
-    slots: Box<[ReaderHead]>,
+    pub(crate) slots: Box<[ReaderHead]>,
 }
 
 impl ReaderList {

@@ -1,14 +1,14 @@
 //! One reader, as the writer keeps it.
 
-use std::{fmt, iter};
+use std::fmt;
 
 use crate::{
     ffi::{
-        self, Changed, Cursor, FragmentNumber, FragmentNumberSet, ReaderProxy, SequenceNumber,
-        SequenceNumberSet,
+        self, FragmentNumber, FragmentNumberSet, ReaderProxy, SequenceNumber, SequenceNumberSet,
     },
+    reader_view::ReaderView,
+    record::{Record, WORDS_PER_SAMPLE},
     refusal::{given, Result},
-    writer_send_buffer::WriterSendBuffer,
 };
 
 /// What the writer knows of one reader: what it has acknowledged, what is unsent
@@ -25,7 +25,8 @@ pub struct RtpsReaderProxy {
     words: Box<[u64]>,
 }
 
-fn zeros(count: usize) -> Box<[u64]> {
+/// A room.
+pub(crate) fn zeros(count: usize) -> Box<[u64]> {
     vec![0; count].into_boxed_slice()
 }
 
@@ -36,7 +37,6 @@ impl RtpsReaderProxy {
     pub const GAPS: usize = 256;
     /// Samples with requested fragments.
     pub const FRAG_SAMPLES: usize = 16;
-    const FRAG_WORDS: usize = 1024;
 
     /// A new reader: nothing acknowledged, nothing unsent. The cap is how many
     /// unsent numbers are kept, 1 to 1,024.
@@ -48,37 +48,40 @@ impl RtpsReaderProxy {
             unsent: zeros(cap),
             gaps: zeros(Self::GAPS),
             samples: zeros(Self::FRAG_SAMPLES),
-            words: zeros(Self::FRAG_WORDS),
+            words: zeros(Self::FRAG_SAMPLES * WORDS_PER_SAMPLE),
         })
     }
 
     /// As new, in the same rooms.
     pub fn clear(&mut self) {
-        self.head = ffi::reader_new(self.head.unsent_cap).proxy;
-        for room in [
-            &mut self.unsent,
-            &mut self.gaps,
-            &mut self.samples,
-            &mut self.words,
-        ] {
-            room.fill(0);
+        let made = ffi::reader_new(self.head.unsent_cap);
+        self.record().clear(made.proxy);
+    }
+
+    /// The record, to be asked: all questions below are those of the view.
+    pub fn view(&self) -> ReaderView<'_> {
+        ReaderView::new(
+            self.head,
+            &self.unsent,
+            &self.gaps,
+            &self.samples,
+            &self.words,
+        )
+    }
+
+    pub(crate) fn head(&self) -> ReaderProxy {
+        self.head
+    }
+
+    /// The record, to be changed.
+    pub(crate) fn record(&mut self) -> Record<'_> {
+        Record {
+            head: &mut self.head,
+            unsent: &mut self.unsent,
+            gaps: &mut self.gaps,
+            samples: &mut self.samples,
+            words: &mut self.words,
         }
-    }
-
-    /// The send step: the first unsent number, marked sent, and whether the
-    /// buffer retains it.
-    pub(crate) fn send_first(
-        &mut self,
-        buffer: &WriterSendBuffer,
-    ) -> Result<(SequenceNumber, bool)> {
-        let sent = ffi::send_first(buffer.flow(), self.head, &mut self.unsent);
-        self.head = sent.proxy;
-        given(sent.answer, (sent.number, sent.data))
-    }
-
-    fn keep(&mut self, changed: Changed) -> Result<()> {
-        self.head = changed.proxy;
-        given(changed.answer, ())
     }
 }
 
@@ -86,50 +89,45 @@ impl RtpsReaderProxy {
 impl RtpsReaderProxy {
     /// The reader has acknowledged all numbers before this one.
     pub fn acked_up_to_before(&self) -> SequenceNumber {
-        self.head.all_acked_before
+        self.view().acked_up_to_before()
     }
 
     /// How many numbers are unsent.
     pub fn unsent_changes_count(&self) -> usize {
-        self.head.unsent_count
+        self.view().unsent_changes_count()
     }
 
     /// The smallest unsent number.
     pub fn first_unsent_change(&self) -> Option<SequenceNumber> {
-        let first = ffi::reader_first_unsent_change(self.head, &self.unsent);
-        given(first.answer, first.number).ok()
+        self.view().first_unsent_change()
     }
 
     /// The unsent numbers, rising. Each step is a call of its own that checks
     /// the room; [`take_unsent`](Self::take_unsent) takes many under one check.
     pub fn unsent_changes_iter(&self) -> impl Iterator<Item = SequenceNumber> + '_ {
-        let mut at = Cursor::default();
-        iter::from_fn(move || {
-            let next = ffi::reader_next_unsent_change(self.head, &self.unsent, at);
-            at = next.cursor;
-            given(next.answer, next.number).ok()
-        })
-        .fuse()
+        self.view().unsent_changes_iter()
     }
 
     /// A new sample's number joins the unsent ones; above the cap the smallest
     /// go.
     pub fn notify_new_cache_change(&mut self, number: SequenceNumber) -> Result<()> {
-        let changed = ffi::reader_notify_new_cache_change(self.head, &mut self.unsent, number);
-        self.keep(changed)
+        let mut record = self.record();
+        let (head, unsent) = (*record.head, record.unsent(1));
+        let changed = ffi::reader_notify_new_cache_change(head, unsent, number);
+        record.keep(changed)
     }
 
     /// One number is unsent no longer. Any number is taken.
     pub fn mark_change_sent(&mut self, number: SequenceNumber) -> Result<()> {
-        let changed = ffi::reader_mark_change_sent(self.head, &mut self.unsent, number);
-        self.keep(changed)
+        self.record().mark_change_sent(number)
     }
 
     /// All numbers below this one are unsent no longer. Any number is taken.
     pub fn remove_from_unsent_set_all_before(&mut self, before: SequenceNumber) -> Result<()> {
-        let unsent = &mut self.unsent;
-        let changed = ffi::reader_remove_from_unsent_set_all_before(self.head, unsent, before);
-        self.keep(changed)
+        let mut record = self.record();
+        let (head, unsent) = (*record.head, record.unsent(0));
+        let changed = ffi::reader_remove_from_unsent_set_all_before(head, unsent, before);
+        record.keep(changed)
     }
 
     /// The smallest unsent numbers, as many as `out` has room for, are written
@@ -146,7 +144,8 @@ impl RtpsReaderProxy {
     /// # Ok::<(), sintemuno::Refusal>(())
     /// ```
     pub fn take_unsent<'a>(&mut self, out: &'a mut [u64]) -> Result<&'a [u64]> {
-        let taken = ffi::reader_take_unsent(self.head, &mut self.unsent, out);
+        let mut record = self.record();
+        let taken = ffi::reader_take_unsent(*record.head, record.unsent(0), out);
         self.head = taken.proxy;
         given(taken.answer, &out[..taken.count])
     }
@@ -174,13 +173,10 @@ impl RtpsReaderProxy {
         reader_sn_state: &SequenceNumberSet,
         last_available: SequenceNumber,
     ) -> Result<usize> {
-        let taken = ffi::reader_handle_ack_nack(
-            self.head,
-            &mut self.unsent,
-            &mut self.gaps,
-            *reader_sn_state,
-            last_available,
-        );
+        let (head, set) = (self.head, *reader_sn_state);
+        let mut record = self.record();
+        let (unsent, gaps) = record.for_ack_nack(&set);
+        let taken = ffi::reader_handle_ack_nack(head, unsent, gaps, set, last_available);
         self.head = taken.proxy;
         given(taken.answer, taken.left_out)
     }
@@ -194,8 +190,10 @@ impl RtpsReaderProxy {
         number: SequenceNumber,
         last: SequenceNumber,
     ) -> Result<()> {
-        let changed = ffi::reader_insert_pending_gap(self.head, &mut self.gaps, number, last);
-        self.keep(changed)
+        let mut record = self.record();
+        let (head, gaps) = (*record.head, record.gaps(1));
+        let changed = ffi::reader_insert_pending_gap(head, gaps, number, last);
+        record.keep(changed)
     }
 
     /// All samples from 1 through `end`. `last` is the last number written.
@@ -204,20 +202,16 @@ impl RtpsReaderProxy {
         end: SequenceNumber,
         last: SequenceNumber,
     ) -> Result<()> {
-        let changed = ffi::reader_set_pending_gap_up_to(self.head, &mut self.gaps, end, last);
-        self.keep(changed)
+        let mut record = self.record();
+        let (head, gaps) = (*record.head, record.gaps(0));
+        let changed = ffi::reader_set_pending_gap_up_to(head, gaps, end, last);
+        record.keep(changed)
     }
 
     /// The pending gap, rising, without what is acknowledged. It may be long: a
     /// prefix isn't kept number by number.
     pub fn get_pending_gap(&self) -> impl Iterator<Item = SequenceNumber> + '_ {
-        let mut at = Cursor::default();
-        iter::from_fn(move || {
-            let next = ffi::reader_next_pending_gap(self.head, &self.gaps, at);
-            at = next.cursor;
-            given(next.answer, next.number).ok()
-        })
-        .fuse()
+        self.view().get_pending_gap()
     }
 }
 
@@ -229,10 +223,11 @@ impl RtpsReaderProxy {
         number: SequenceNumber,
         frag_nums: &FragmentNumberSet,
     ) -> Result<()> {
-        let (samples, words) = (&mut self.samples, &mut self.words);
-        let changed =
-            ffi::reader_mark_frags_requested(self.head, samples, words, number, *frag_nums);
-        self.keep(changed)
+        let head = self.head;
+        let mut record = self.record();
+        let (samples, words) = record.frags(1);
+        let changed = ffi::reader_mark_frags_requested(head, samples, words, number, *frag_nums);
+        record.keep(changed)
     }
 
     /// A fragment was sent. Any numbers are taken.
@@ -241,9 +236,7 @@ impl RtpsReaderProxy {
         number: SequenceNumber,
         fragment: FragmentNumber,
     ) -> Result<()> {
-        let (samples, words) = (&mut self.samples, &mut self.words);
-        let changed = ffi::reader_mark_frag_sent(self.head, samples, words, number, fragment);
-        self.keep(changed)
+        self.record().mark_frag_sent(number, fragment)
     }
 
     /// The requested fragments, rising, of the smallest sample that has any.
@@ -262,31 +255,18 @@ impl RtpsReaderProxy {
     pub fn frags_requested_iterator(
         &self,
     ) -> impl Iterator<Item = (SequenceNumber, FragmentNumber)> + '_ {
-        let mut at = Cursor::default();
-        iter::from_fn(move || {
-            let next = ffi::reader_next_frag_requested(self.head, &self.samples, &self.words, at);
-            at = next.cursor;
-            given(next.answer, (next.sample, next.fragment)).ok()
-        })
-        .fuse()
+        self.view().frags_requested_iterator()
     }
 
     /// Whether any fragment is asked for.
     pub fn repair_frags_requested(&self) -> bool {
-        ffi::reader_repair_frags_requested(self.head, &self.samples, &self.words).yes
+        self.view().repair_frags_requested()
     }
 }
 
 impl fmt::Debug for RtpsReaderProxy {
     fn fmt(&self, f: &mut fmt::Formatter<'_>) -> fmt::Result {
-        let used = |room: &[u64], count: usize| room[..count].to_vec();
-        f.debug_struct("RtpsReaderProxy")
-            .field("all_acked_before", &self.head.all_acked_before.0)
-            .field("unsent_cap", &self.head.unsent_cap)
-            .field("unsent", &used(&self.unsent, self.head.unsent_count))
-            .field("gap_prefix_end", &self.head.gap_prefix_end.0)
-            .field("gaps", &used(&self.gaps, self.head.gap_count))
-            .field("frag_samples", &used(&self.samples, self.head.frag_count))
-            .finish()
+        let view = self.view();
+        f.debug_tuple("RtpsReaderProxy").field(&view).finish()
     }
 }

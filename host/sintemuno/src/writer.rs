@@ -2,23 +2,16 @@
 
 use crate::{
     ffi::{
-        self, Cursor, FragmentNumber, FragmentNumberSet, Kind, Limits, SequenceNumber,
+        self, FragmentNumber, FragmentNumberSet, Kind, Limits, Match, SequenceNumber,
         SequenceNumberSet,
     },
     reader_list::ReaderList,
-    refusal::{given, Refusal, Result},
-    rtps_reader_proxy::RtpsReaderProxy,
+    reader_view::ReaderView,
+    records::Records,
+    refusal::{given, Result},
+    sent::{Sent, SentMany, SentRoom},
     writer_send_buffer::WriterSendBuffer,
 };
-
-/// What the send step puts on the wire.
-#[derive(Clone, Copy, Debug, PartialEq, Eq)]
-pub enum Sent<'a> {
-    /// The sample's number and its bytes.
-    Data(SequenceNumber, &'a [u8]),
-    /// A number that is no longer retained, to be told as a gap.
-    Gap(SequenceNumber),
-}
 
 /// What an accepted ACKNACK did.
 #[derive(Clone, Copy, Debug, PartialEq, Eq)]
@@ -31,31 +24,41 @@ pub struct Acknowledged {
 
 /// A writer: its send buffer, the reader list, and a record for each reader.
 ///
-/// The frontier is stored after each match, departure and accepted ACKNACK, and
-/// every reader is told of each admitted number, as document 01 has it. All
-/// rooms are made by `new`; no other call allocates. A refused call changes
-/// nothing.
-#[derive(Clone, Debug, PartialEq, Eq)]
+/// A match, a departure, an ACKNACK, a NACK_FRAG and a write are each one proved
+/// step of the library: the frontier is stored with the first three, and every
+/// reader is told of each admitted number, as document 01 has it. All rooms are
+/// made by `new`; no other call allocates. A refused call changes nothing, and
+/// its number is the library's.
+#[derive(Clone, Debug)]
 pub struct Writer {
     buffer: WriterSendBuffer,
     list: ReaderList,
     /// The record of the reader in the slot of the same place.
-    proxies: Box<[RtpsReaderProxy]>,
-    cap: usize,
+    records: Records,
+    sent: Box<SentRoom>,
 }
 
+/// What the last send step wrote down doesn't count.
+impl PartialEq for Writer {
+    fn eq(&self, other: &Self) -> bool {
+        (&self.buffer, &self.list, &self.records) == (&other.buffer, &other.list, &other.records)
+    }
+}
+
+impl Eq for Writer {}
+
 impl Writer {
+    /// As many as [`send_many`](Self::send_many) sends in one call.
+    pub const MOST_SENT: usize = SentRoom::MOST;
+
     /// A writer with room for so many readers, 1 to 64, each with this cap of
     /// unsent numbers, 1 to 1,024.
     pub fn new(kind: Kind, limits: Limits, readers: usize, cap: usize) -> Result<Self> {
-        let buffer = WriterSendBuffer::new(kind, limits)?;
-        let list = ReaderList::new(readers)?;
-        let proxies = vec![RtpsReaderProxy::new(cap)?; readers].into_boxed_slice();
         Ok(Writer {
-            buffer,
-            list,
-            proxies,
-            cap,
+            buffer: WriterSendBuffer::new(kind, limits)?,
+            list: ReaderList::new(readers)?,
+            records: Records::new(readers, cap)?,
+            sent: SentRoom::new(),
         })
     }
 
@@ -69,81 +72,119 @@ impl Writer {
         &self.list
     }
 
-    /// One reader's record.
-    pub fn reader(&self, id: u64) -> Result<&RtpsReaderProxy> {
-        Ok(&self.proxies[self.place(id)?])
+    /// One reader's record, to be asked.
+    pub fn reader(&self, id: u64) -> Result<ReaderView<'_>> {
+        Ok(self.records.view(self.known(id)?))
     }
 
     /// Where the reader's record is. A plain search, since the list is this
-    /// writer's own; the library's lookup would check it whole.
-    fn place(&self, id: u64) -> Result<usize> {
-        let place = self.list.slots().iter().position(|head| head.id == id);
-        place.filter(|_| id != 0).ok_or(Refusal::Reader)
+    /// writer's own; a free slot has id 0.
+    fn place(&self, id: u64) -> Option<usize> {
+        let mut slots = self.list.slots().iter();
+        slots.position(|head| head.id == id).filter(|_| id != 0)
     }
 
-    fn last(&self) -> SequenceNumber {
-        self.buffer.last_change_sequence_number()
+    /// The same; where there is none, the library says why.
+    fn known(&self, id: u64) -> Result<usize> {
+        match self.place(id) {
+            Some(place) => Ok(place),
+            None => Ok(self.list.matched_reader_lookup(id)?.0),
+        }
     }
+}
 
-    fn store_frontier(&mut self) -> Result<bool> {
-        self.buffer.set_acked_frontier(self.list.frontier())
-    }
-
+/// Readers that come and go.
+impl Writer {
     /// A reader is matched. Returns whether to wake who waits for room.
     pub fn matched_reader_add(&mut self, id: u64, reliable: bool) -> Result<bool> {
-        self.list.matched_reader_add(id, reliable, self.cap)?;
-        let place = self.place(id)?;
-        self.proxies[place].clear();
-        self.store_frontier()
+        let cap = self.records.cap() as u64;
+        let joins = Match { id, reliable, cap };
+        let told = ffi::match_reader(&mut self.list.slots, &mut self.buffer.flow, joins);
+        let wake = given(told.answer, told.yes)?;
+        let place = self.known(id)?;
+        self.records.begin(place);
+        Ok(wake)
     }
 
     /// A reader departs. Returns whether to wake who waits for room.
     pub fn matched_reader_remove(&mut self, id: u64) -> Result<bool> {
-        self.list.matched_reader_remove(id)?;
-        self.store_frontier()
+        let place = self.place(id);
+        let told = ffi::depart_reader(&mut self.list.slots, &mut self.buffer.flow, id);
+        let wake = given(told.answer, told.yes)?;
+        if let Some(place) = place {
+            self.records.end(place);
+        }
+        Ok(wake)
     }
+}
 
+/// Samples that are written and sent.
+impl Writer {
     /// A sample is written, and every reader told.
     pub fn write(&mut self, opted_in: bool, payload: &[u8]) -> Result<SequenceNumber> {
-        let number = self.buffer.try_admit(opted_in, payload)?;
-        for (head, proxy) in self.list.slots().iter().zip(self.proxies.iter_mut()) {
-            if head.id != 0 {
-                proxy.notify_new_cache_change(number)?;
-            }
-        }
-        Ok(number)
-    }
-
-    /// An ACKNACK is taken: the reader's record, its place in the list and the
-    /// frontier move together.
-    pub fn handle_ack_nack(
-        &mut self,
-        id: u64,
-        reader_sn_state: &SequenceNumberSet,
-    ) -> Result<Acknowledged> {
-        let place = match self.place(id) {
-            Ok(place) => place,
-            // 3 and 2 come before 11.
-            Err(unknown) => return Err(refused_set(reader_sn_state).unwrap_or(unknown)),
-        };
-        let last = self.last();
-        let proxy = &mut self.proxies[place];
-        let left_out = proxy.handle_ack_nack(reader_sn_state, last)?;
-        self.list.set_acked(id, proxy.acked_up_to_before())?;
-        let wake = self.store_frontier()?;
-        Ok(Acknowledged { left_out, wake })
+        let WriterSendBuffer { flow, store, lens } = &mut self.buffer;
+        let (heads, unsent) = self.records.side_by_side();
+        let written = ffi::write(flow, store, lens, payload, opted_in, heads, unsent);
+        given(written.answer, written.number)
     }
 
     /// The send step: the reader's first unsent number is marked sent, as data
     /// where it is retained and else as a gap. It doesn't raise the sent
     /// frontier; [`set_sent_frontier`](Self::set_sent_frontier) does.
     pub fn send_first(&mut self, id: u64) -> Result<Sent<'_>> {
-        let place = self.place(id)?;
-        let (number, data) = self.proxies[place].send_first(&self.buffer)?;
+        let place = self.known(id)?;
+        let mut record = self.records.record(Some(place));
+        let sent = ffi::send_first(self.buffer.flow, *record.head, record.unsent(0));
+        *record.head = sent.proxy;
+        let number = given(sent.answer, sent.number)?;
         Ok(match self.buffer.get_by_sn(number) {
-            Some(bytes) if data => Sent::Data(number, bytes),
+            Some(bytes) if sent.data => Sent::Data(number, bytes),
             _ => Sent::Gap(number),
         })
+    }
+
+    /// The send step for many, under one check: the reader's first unsent
+    /// numbers, `most` of them or as many as there are, and no more than
+    /// [`MOST_SENT`](Self::MOST_SENT). They are marked sent by the call itself,
+    /// also those that aren't taken from the iterator afterwards. It doesn't
+    /// raise the sent frontier.
+    ///
+    /// ```
+    /// # use sintemuno::{Kind, Limits, Refusal, Sent, SequenceNumber, Writer};
+    /// # let kind = Kind { reliable: true, builtin: false, volatile: true };
+    /// # let limits = Limits { window: 8, backlog: 8, retain: 8, slots: 8, slot_bytes: 64 };
+    /// let mut plan = Writer::new(kind, limits, 4, 64)?;
+    /// plan.matched_reader_add(1, true)?;
+    /// for notice in ["rye, label 7", "oat rolls, label 12", "stop: sesame"] {
+    ///     plan.write(false, notice.as_bytes())?;
+    /// }
+    /// plan.remove_changes_before(SequenceNumber(2))?;
+    /// let mut sent = plan.send_many(1, 2)?;
+    /// assert_eq!(sent.next(), Some(Sent::Gap(SequenceNumber(1))));
+    /// assert_eq!(sent.next(), Some(Sent::Data(SequenceNumber(2), b"oat rolls, label 12")));
+    /// assert_eq!(sent.next(), None);
+    /// assert_eq!(plan.send_many(1, 2)?.len(), 1);
+    /// assert_eq!(plan.send_many(1, 2).err(), Some(Refusal::NothingThere));
+    /// # Ok::<(), Refusal>(())
+    /// ```
+    pub fn send_many(&mut self, id: u64, most: usize) -> Result<SentMany<'_>> {
+        let place = self.known(id)?;
+        let most = most.min(Self::MOST_SENT);
+        let WriterSendBuffer { flow, store, lens } = &self.buffer;
+        let mut record = self.records.record(Some(place));
+        let sent = ffi::send_many(
+            *flow,
+            store.len(),
+            lens,
+            *record.head,
+            record.unsent(0),
+            &mut self.sent.numbers[..most],
+            &mut self.sent.starts[..most],
+            &mut self.sent.lengths[..most],
+        );
+        *record.head = sent.proxy;
+        let count = given(sent.answer, sent.count)?;
+        Ok(self.sent.first(count, store))
     }
 
     /// What has gone out: the sent frontier rises to this number. Returns
@@ -155,26 +196,15 @@ impl Writer {
     /// The number was sent to the reader: marked, and the sent frontier raised.
     /// Returns whether to wake who waits for room.
     pub fn mark_change_sent(&mut self, id: u64, number: SequenceNumber) -> Result<bool> {
-        if number > self.last() {
-            return Err(Refusal::OutOfRange);
-        }
-        let place = self.place(id)?;
-        self.proxies[place].mark_change_sent(number)?;
-        self.buffer.set_sent_frontier(number)
-    }
-
-    /// A NACK_FRAG is taken.
-    pub fn mark_frags_requested(
-        &mut self,
-        id: u64,
-        number: SequenceNumber,
-        frag_nums: &FragmentNumberSet,
-    ) -> Result<()> {
-        match self.place(id) {
-            Ok(place) => self.proxies[place].mark_frags_requested(number, frag_nums),
-            // 3 and 2 come before 11.
-            Err(unknown) => Err(refused_request(number, frag_nums).unwrap_or(unknown)),
-        }
+        // 2 comes before 11: the frontier first, on a copy that is kept only
+        // where all is done.
+        let mut flow = self.buffer.flow;
+        let told = ffi::writer_set_sent_frontier(&mut flow, number);
+        let wake = given(told.answer, told.yes)?;
+        let place = self.known(id)?;
+        self.records.record(Some(place)).mark_change_sent(number)?;
+        self.buffer.flow = flow;
+        Ok(wake)
     }
 
     /// A fragment was sent to the reader. Any numbers are taken.
@@ -184,8 +214,9 @@ impl Writer {
         number: SequenceNumber,
         fragment: FragmentNumber,
     ) -> Result<()> {
-        let place = self.place(id)?;
-        self.proxies[place].mark_frag_sent(number, fragment)
+        let place = self.known(id)?;
+        let mut record = self.records.record(Some(place));
+        record.mark_frag_sent(number, fragment)
     }
 
     /// What is retained below the number goes.
@@ -194,29 +225,40 @@ impl Writer {
     }
 }
 
-/// Why an ACKNACK's set is refused, whoever sent it.
-fn refused_set(set: &SequenceNumberSet) -> Option<Refusal> {
-    let next = ffi::set_next_member(*set, Cursor::default());
-    match given(next.answer, ()) {
-        Ok(()) | Err(Refusal::NothingThere) => None,
-        Err(refusal) => Some(refusal),
+/// What the readers ask for. A reader that isn't there is found by the library,
+/// since 3 and 2 come before 11.
+impl Writer {
+    /// An ACKNACK is taken: the reader's record, its place in the list and the
+    /// frontier move together.
+    pub fn handle_ack_nack(
+        &mut self,
+        id: u64,
+        reader_sn_state: &SequenceNumberSet,
+    ) -> Result<Acknowledged> {
+        let place = self.place(id);
+        let (list, flow) = (&mut self.list.slots, &mut self.buffer.flow);
+        let mut record = self.records.record(place);
+        let (head, set) = (*record.head, *reader_sn_state);
+        let (unsent, gaps) = record.for_ack_nack(&set);
+        let taken = ffi::take_ack_nack(list, flow, head, unsent, gaps, id, set);
+        *record.head = taken.proxy;
+        let wake = given(taken.told.answer, taken.told.yes)?;
+        let left_out = taken.left_out;
+        Ok(Acknowledged { left_out, wake })
     }
-}
 
-/// Why a NACK_FRAG is refused, whoever sent it.
-fn refused_request(number: SequenceNumber, set: &FragmentNumberSet) -> Option<Refusal> {
-    // A set has at most 256 members; they rise.
-    let mut members = [0; 256];
-    let listed = ffi::fragment_set_list_members(*set, &mut members);
-    let count = match given(listed.answer, listed.count) {
-        Ok(count) => count,
-        Err(refusal) => return Some(refusal),
-    };
-    let last = members[..count].last();
-    let beyond = last.map_or(false, |f| *f > u64::from(FragmentNumber::LAST.0));
-    if beyond || set.base.0 == 0 || !number.is_sample() {
-        Some(Refusal::OutOfRange)
-    } else {
-        None
+    /// A NACK_FRAG is taken.
+    pub fn mark_frags_requested(
+        &mut self,
+        id: u64,
+        number: SequenceNumber,
+        frag_nums: &FragmentNumberSet,
+    ) -> Result<()> {
+        let place = self.place(id);
+        let mut record = self.records.record(place);
+        let (head, list) = (*record.head, &self.list.slots);
+        let (samples, words) = record.frags(1);
+        let changed = ffi::take_nack_frag(list, head, samples, words, id, number, *frag_nums);
+        record.keep(changed)
     }
 }

@@ -14,9 +14,9 @@ use crate::{
 /// say when who waits is to be woken.
 #[derive(Clone, PartialEq, Eq)]
 pub struct WriterSendBuffer {
-    flow: Flow,
-    store: Box<[u8]>,
-    lens: Box<[u64]>,
+    pub(crate) flow: Flow,
+    pub(crate) store: Box<[u8]>,
+    pub(crate) lens: Box<[u64]>,
 }
 
 impl WriterSendBuffer {
@@ -31,10 +31,6 @@ impl WriterSendBuffer {
             store: vec![0; slots * bytes].into_boxed_slice(),
             lens: vec![0; slots].into_boxed_slice(),
         })
-    }
-
-    pub(crate) fn flow(&self) -> Flow {
-        self.flow
     }
 
     /// Whether one more sample finds room; `opted_in`: the write opted in to

@@ -8,7 +8,7 @@ const ENTRIES: &str = include_str!("../src/ffi/entries.rs");
 const TYPES: &str = include_str!("../src/ffi/types.rs");
 
 /// C's names and Rust's.
-const NAMES: [(&str, &str); 36] = [
+const NAMES: [(&str, &str); 38] = [
     ("int64_t", "i64"),
     ("uint64_t", "u64"),
     ("uint32_t", "u32"),
@@ -45,6 +45,8 @@ const NAMES: [(&str, &str); 36] = [
     ("sintemuno_found", "Found"),
     ("sintemuno_front", "Front"),
     ("sintemuno_sent", "Sent"),
+    ("sintemuno_sent_many", "SentMany"),
+    ("sintemuno_ack_told", "AckTold"),
 ];
 
 fn rust_name(c: &str) -> &str {
@@ -163,7 +165,7 @@ fn of_rust() -> BTreeMap<String, String> {
 #[test]
 fn the_declarations_are_the_headers() {
     let (header, rust) = (of_header(), of_rust());
-    assert_eq!(rust.keys().filter(|n| n.starts_with("sinte")).count(), 37);
+    assert_eq!(rust.keys().filter(|n| n.starts_with("sinte")).count(), 43);
     for (name, declared) in &header {
         assert_eq!(Some(declared), rust.get(name), "{}", name);
     }

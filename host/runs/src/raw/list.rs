@@ -24,7 +24,7 @@ pub fn world(prng: &mut Prng, tally: &mut Tally) -> Result<(), String> {
 }
 
 /// Readers in any slots of a list of any length, with free ones between.
-fn drawn(prng: &mut Prng, near: Near) -> Vec<ReaderHead> {
+pub fn drawn(prng: &mut Prng, near: Near) -> Vec<ReaderHead> {
     let mut slots = forms::slots(&draw_list::list(prng, near));
     for place in 0..slots.len() {
         slots.swap(place, prng.below(64) as usize);
@@ -33,7 +33,7 @@ fn drawn(prng: &mut Prng, near: Near) -> Vec<ReaderHead> {
     slots
 }
 
-fn damage(prng: &mut Prng, near: Near, slots: &mut Vec<ReaderHead>) {
+pub fn damage(prng: &mut Prng, near: Near, slots: &mut Vec<ReaderHead>) {
     let any = |prng: &mut Prng| ReaderHead {
         id: prng.below(4),
         reliable: prng.coin(),
@@ -54,7 +54,7 @@ fn damage(prng: &mut Prng, near: Near, slots: &mut Vec<ReaderHead>) {
 /// The readers that are there, in the order of their slots. `None` if the list
 /// isn't coherent: no slots or too many, two readers of one id, or a free slot
 /// with something in it (a negative acked counts as 0).
-fn view(slots: &[ReaderHead]) -> Option<ReaderList> {
+pub fn view(slots: &[ReaderHead]) -> Option<ReaderList> {
     let free = |h: &&ReaderHead| h.id == 0;
     let empty = |h: &ReaderHead| !h.reliable && h.acked.0 <= 0;
     let there = slots.iter().filter(|h| h.id != 0);
@@ -72,7 +72,7 @@ fn view(slots: &[ReaderHead]) -> Option<ReaderList> {
     }
 }
 
-fn place_of(slots: &[ReaderHead], id: u64) -> Option<usize> {
+pub fn place_of(slots: &[ReaderHead], id: u64) -> Option<usize> {
     slots.iter().position(|h| h.id == id)
 }
 

@@ -15,33 +15,43 @@ use crate::{
     prng::Prng,
 };
 
+const WORDS_PER_SAMPLE: usize = 64;
+
 /// Which rooms a call is lent. It tests the head whole and these alone.
 #[derive(Clone, Copy, PartialEq, Eq)]
 pub struct Lends {
     pub unsent: bool,
     pub gaps: bool,
     pub frags: bool,
+    /// So many numbers may join: of the unsent room where that is lent, else of
+    /// the gap room or the room of samples.
+    pub joins: usize,
 }
 
 const NONE: Lends = Lends {
     unsent: false,
     gaps: false,
     frags: false,
+    joins: 0,
 };
 pub const UNSENT: Lends = Lends {
     unsent: true,
     ..NONE
 };
 const GAPS: Lends = Lends { gaps: true, ..NONE };
-const FRAGS: Lends = Lends {
+pub const FRAGS: Lends = Lends {
     frags: true,
     ..NONE
 };
-const UNSENT_AND_GAPS: Lends = Lends {
+pub const UNSENT_AND_GAPS: Lends = Lends {
     unsent: true,
     gaps: true,
     ..NONE
 };
+
+pub fn joining(lends: Lends, joins: usize) -> Lends {
+    Lends { joins, ..lends }
+}
 
 /// The record as far as it is lent, all else empty; `None` if that isn't
 /// coherent.
@@ -55,20 +65,47 @@ pub fn view(lent: &LentReader, lends: Lends) -> Option<Reader> {
         return None;
     }
     let mut part = lent.clone();
+    let (unsent_joins, gap_joins) = match lends.unsent {
+        true => (lends.joins, 0),
+        false => (0, lends.joins),
+    };
     if !lends.unsent {
         part.head.unsent_count = 0;
         part.unsent = vec![0; head.unsent_cap];
+    } else if !whole(
+        &mut part.unsent,
+        head.unsent_count,
+        head.unsent_cap,
+        unsent_joins,
+    ) {
+        return None;
     }
     if !lends.gaps {
         part.head.gap_count = 0;
         part.gaps = vec![0; 256];
+    } else if !whole(&mut part.gaps, head.gap_count, 256, gap_joins) {
+        return None;
     }
     if !lends.frags {
         part.head.frag_count = 0;
         part.samples = vec![0; 16];
         part.words = vec![0; 1024];
+    } else {
+        let all_words = part.words.len() == WORDS_PER_SAMPLE * part.samples.len();
+        if !all_words || !whole(&mut part.samples, head.frag_count, 16, lends.joins) {
+            return None;
+        }
+        part.words.resize(1024, 0);
     }
     part.view()
+}
+
+/// A room for `most` numbers that is lent in part, made whole; `false` if it
+/// has no place for so many more, or is too long.
+fn whole(room: &mut Vec<u64>, count: usize, most: usize, more: usize) -> bool {
+    let lent = room.len();
+    room.resize(lent.max(most), 0);
+    lent <= most && count <= lent && (lent == most || count + more <= lent)
 }
 
 /// What was lent, as the changed record fills it; all else as it was.
@@ -80,21 +117,25 @@ pub fn form(before: &LentReader, lends: Lends, reader: &Reader) -> LentReader {
     if lends.unsent {
         after.head.unsent_count = made.head.unsent_count;
         after.unsent = made.unsent;
+        after.unsent.truncate(before.unsent.len());
     }
     if lends.gaps {
         after.head.gap_count = made.head.gap_count;
         after.gaps = made.gaps;
+        after.gaps.truncate(before.gaps.len());
     }
     if lends.frags {
         after.head.frag_count = made.head.frag_count;
         after.samples = made.samples;
+        after.samples.truncate(before.samples.len());
         after.words = made.words;
+        after.words.truncate(before.words.len());
     }
     after
 }
 
 /// What a call answers, and what it leaves of all that there is.
-fn judged<T: Default>(
+pub fn judged<T: Default>(
     before: &LentReader,
     lends: Lends,
     call: impl FnOnce(&mut Reader) -> Answer<T>,
@@ -116,6 +157,9 @@ pub fn world(prng: &mut Prng, tally: &mut Tally) -> Result<(), String> {
     for _ in 0..CALLS_PER_WORLD {
         let damaged = prng.one_in(3);
         let mut lent = sound.clone();
+        if prng.coin() {
+            lend_in_part(prng, &mut lent);
+        }
         if damaged {
             damage(prng, near, &mut lent);
         }
@@ -127,10 +171,28 @@ pub fn world(prng: &mut Prng, tally: &mut Tally) -> Result<(), String> {
             _ => creation(prng, tally)?,
         }
         if !damaged {
+            make_whole(&mut lent);
             sound = lent;
         }
     }
     Ok(())
+}
+
+/// The rooms from their start: what is held, and some places more, or none.
+pub fn lend_in_part(prng: &mut Prng, lent: &mut LentReader) {
+    let mut some = |held: usize, more: u64| held + prng.below(more) as usize;
+    lent.unsent.truncate(some(lent.head.unsent_count, 5));
+    lent.gaps.truncate(some(lent.head.gap_count, 5));
+    lent.samples.truncate(some(lent.head.frag_count, 3));
+    lent.words.truncate(WORDS_PER_SAMPLE * lent.samples.len());
+}
+
+/// What was not lent is as it was: zeros.
+pub fn make_whole(lent: &mut LentReader) {
+    lent.unsent.resize(lent.head.unsent_cap, 0);
+    lent.gaps.resize(256, 0);
+    lent.samples.resize(16, 0);
+    lent.words.resize(1024, 0);
 }
 
 pub fn damage(prng: &mut Prng, near: Near, lent: &mut LentReader) {
@@ -177,7 +239,9 @@ fn changes(
         ReaderCall::Notify { number } => (
             "reader_notify_new_cache_change",
             ffi::reader_notify_new_cache_change(lent.head, &mut lent.unsent, sn(*number)),
-            judged(&before, UNSENT, |r| r.notify_new_cache_change(*number)),
+            judged(&before, joining(UNSENT, 1), |r| {
+                r.notify_new_cache_change(*number)
+            }),
         ),
         ReaderCall::MarkSent { number } => (
             "reader_mark_change_sent",
@@ -194,7 +258,9 @@ fn changes(
         ReaderCall::Gap { number, last } => (
             "reader_insert_pending_gap",
             ffi::reader_insert_pending_gap(lent.head, &mut lent.gaps, sn(*number), sn(*last)),
-            judged(&before, GAPS, |r| r.insert_pending_gap(*number, *last)),
+            judged(&before, joining(GAPS, 1), |r| {
+                r.insert_pending_gap(*number, *last)
+            }),
         ),
         ReaderCall::GapUpTo { end, last } => (
             "reader_set_pending_gap_up_to",
@@ -210,7 +276,9 @@ fn changes(
                 sn(*sample),
                 forms::fragment_set(set),
             ),
-            judged(&before, FRAGS, |r| r.mark_frags_requested(*sample, set)),
+            judged(&before, joining(FRAGS, 1), |r| {
+                r.mark_frags_requested(*sample, set)
+            }),
         ),
         ReaderCall::FragSent { sample, fragment } => (
             "reader_mark_frag_sent",
@@ -247,8 +315,9 @@ fn acknowledges(call: &ReaderCall, tally: &mut Tally, lent: &mut LentReader) -> 
         ffi::reader_handle_ack_nack(lent.head, unsent, gaps, forms::number_set(set), sn(last));
     count(tally, "reader_handle_ack_nack", got.answer);
     lent.head = got.proxy;
-    let (answer, left_out, after) =
-        judged(&before, UNSENT_AND_GAPS, |r| r.handle_ack_nack(set, last));
+    let asked = set.count.min(256) as usize;
+    let lends = joining(UNSENT_AND_GAPS, asked);
+    let (answer, left_out, after) = judged(&before, lends, |r| r.handle_ack_nack(set, last));
     let expected = AckNacked {
         answer,
         left_out: left_out as usize,

@@ -38,7 +38,7 @@ pub fn world(prng: &mut Prng, tally: &mut Tally) -> Result<(), String> {
     Ok(())
 }
 
-fn damage(prng: &mut Prng, near: Near, lent: &mut LentWriter) {
+pub fn damage(prng: &mut Prng, near: Near, lent: &mut LentWriter) {
     for _ in 0..1 + prng.below(2) {
         let any = |prng: &mut Prng| match prng.coin() {
             true => SequenceNumber(near.number(prng)),
@@ -62,7 +62,7 @@ fn damage(prng: &mut Prng, near: Near, lent: &mut LentWriter) {
 }
 
 /// The store's part of coherence; `room` is how many bytes it has.
-fn store_fits(flow: &Flow, room: u64, lens: &[u64]) -> bool {
+pub fn store_fits(flow: &Flow, room: u64, lens: &[u64]) -> bool {
     let (slots, width) = (flow.limits.slots, flow.limits.slot_bytes);
     flow.is_coherent()
         && room == slots * width
@@ -70,7 +70,7 @@ fn store_fits(flow: &Flow, room: u64, lens: &[u64]) -> bool {
         && (flow.first..=flow.last).all(|n| lens[slot(flow, n)] <= width)
 }
 
-fn slot(flow: &Flow, number: i64) -> usize {
+pub fn slot(flow: &Flow, number: i64) -> usize {
     ((number - 1) as u64 % flow.limits.slots) as usize
 }
 
@@ -150,13 +150,18 @@ fn admitted(before: &LentWriter, opted: bool, payload: &[u8]) -> (ffi::Answer, i
     let mut buffer: SendBuffer = before.view().expect("it fits");
     let (answer, number) = parts(buffer.admit(opted, payload));
     if answer.number == 0 {
-        after.flow = forms::flow(&buffer.flow);
-        let slot = slot(&flow, number);
-        let start = slot * flow.limits.slot_bytes as usize;
-        after.store[start..start + payload.len()].copy_from_slice(payload);
-        after.lens[slot] = payload.len() as u64;
+        put_sample(&mut after, &buffer.flow, number, payload);
     }
     (answer, number, after)
+}
+
+/// What an admission changes.
+pub fn put_sample(lent: &mut LentWriter, flow: &Flow, number: i64, payload: &[u8]) {
+    lent.flow = forms::flow(flow);
+    let slot = slot(flow, number);
+    let start = slot * flow.limits.slot_bytes as usize;
+    lent.store[start..start + payload.len()].copy_from_slice(payload);
+    lent.lens[slot] = payload.len() as u64;
 }
 
 fn locates(

@@ -184,4 +184,69 @@ extern "C" {
         unsent: *mut u64,
         unsent_len: usize,
     ) -> Sent;
+    pub fn sintemuno_send_many(
+        flow: WriterSendBuffer,
+        room: usize,
+        lens: *const u64,
+        lens_len: usize,
+        proxy: ReaderProxy,
+        unsent: *mut u64,
+        unsent_len: usize,
+        numbers: *mut u64,
+        numbers_len: usize,
+        starts: *mut u64,
+        starts_len: usize,
+        lengths: *mut u64,
+        lengths_len: usize,
+    ) -> SentMany;
+    pub fn sintemuno_match_reader(
+        list: *mut ReaderHead,
+        list_len: usize,
+        flow: *mut WriterSendBuffer,
+        m: Match,
+    ) -> Told;
+    pub fn sintemuno_depart_reader(
+        list: *mut ReaderHead,
+        list_len: usize,
+        flow: *mut WriterSendBuffer,
+        id: u64,
+    ) -> Told;
+    pub fn sintemuno_take_ack_nack(
+        list: *mut ReaderHead,
+        list_len: usize,
+        flow: *mut WriterSendBuffer,
+        proxy: ReaderProxy,
+        unsent: *mut u64,
+        unsent_len: usize,
+        gaps: *mut u64,
+        gaps_len: usize,
+        id: u64,
+        set: SequenceNumberSet,
+    ) -> AckTold;
+    pub fn sintemuno_take_nack_frag(
+        list: *const ReaderHead,
+        list_len: usize,
+        proxy: ReaderProxy,
+        samples: *mut u64,
+        samples_len: usize,
+        words: *mut u64,
+        words_len: usize,
+        id: u64,
+        number: SequenceNumber,
+        set: FragmentNumberSet,
+    ) -> Changed;
+    pub fn sintemuno_write(
+        flow: *mut WriterSendBuffer,
+        store: *mut u8,
+        store_len: usize,
+        lens: *mut u64,
+        lens_len: usize,
+        payload: *const u8,
+        payload_len: usize,
+        opted: bool,
+        proxies: *mut ReaderProxy,
+        proxies_len: usize,
+        unsent: *mut u64,
+        unsent_len: usize,
+    ) -> Numbered;
 }

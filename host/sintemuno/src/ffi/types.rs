@@ -255,3 +255,19 @@ pub struct Sent {
     pub data: bool,
     pub proxy: ReaderProxy,
 }
+
+#[repr(C)]
+#[derive(Clone, Copy, Debug, PartialEq, Eq, Default)]
+pub struct AckTold {
+    pub told: Told,
+    pub left_out: usize,
+    pub proxy: ReaderProxy,
+}
+
+#[repr(C)]
+#[derive(Clone, Copy, Debug, PartialEq, Eq, Default)]
+pub struct SentMany {
+    pub answer: Answer,
+    pub count: usize,
+    pub proxy: ReaderProxy,
+}

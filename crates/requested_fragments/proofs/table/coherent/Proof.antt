@@ -2,6 +2,7 @@
 use Prim.Native.Nat.{ℕ, _≤_, _<_, _+_, _-_, _*_, _/_, _%_, _^_, min, max}
 use mathlib.Core.Path.{_≡_, refl, sym, ap, _∙_}
 use native.Mathlib.Omega.{arith}
+use lib.ListN.{length}
 use borrow.Author.Tests.{not-true, not-false}
 use Rattle.requested_fragments.proofs.Laws.{check-samples, check-words, check-run, run-few, check-rest}
 use borrow.Author.Needs.{needs}
@@ -15,6 +16,9 @@ use Rattle.rising.proofs.run.run_ok.Reads as run-ok-reads
 
 returns : tie.Need-returns
 returns c = check-samples (c .before .before .before .args .count) (c .before .before .before .args .samples .now) (c .before .before .before .args .words .now) (c .if1 .taken)
+
+mul-if2 : tie.Need-mul-if2
+mul-if2 c = search needs
 
 returns-2 : tie.Need-returns-2
 returns-2 c = check-words (c .before .before .before .before .args .count) (c .before .before .before .before .args .samples .now) (c .before .before .before .before .args .words .now) (c .before .if1 .left) (c .if2 .taken)
@@ -36,7 +40,7 @@ mul-a c =
     let if1 = c .before .before .before .if1 in
     let if2 = c .before .before .if2 in
     let run-ok = c .before .run-ok in
-    let h : args .count ≤ 16 = run-few _ (args .samples .now) (args .words .now) (if1 .left) (if2 .left) (sym (run-ok .ensures) ∙ not-false _ (c .if3 .left)) in
+    let h : args .count ≤ length (args .samples .now) = run-few _ (args .samples .now) (args .words .now) (if1 .left) (if2 .left) (sym (run-ok .ensures) ∙ not-false _ (c .if3 .left)) in
     search needs
 
 all-hold-requires : tie.Need-all-hold-requires
@@ -45,8 +49,8 @@ all-hold-requires c κs =
     let if1 = c .before .before .before .if1 in
     let if2 = c .before .before .if2 in
     let run-ok = c .before .run-ok in
-    let h : args .count ≤ 16 = run-few _ (args .samples .now) (args .words .now) (if1 .left) (if2 .left) (sym (run-ok .ensures) ∙ not-false _ (c .if3 .left)) in
-    (omega (arith, h, if2 .left), h)
+    let h : args .count ≤ length (args .samples .now) = run-few _ (args .samples .now) (args .words .now) (if1 .left) (if2 .left) (sym (run-ok .ensures) ∙ not-false _ (c .if3 .left)) in
+    (omega (arith, h, if2 .left), omega (arith, h, if1 .left))
 
 mul-all-zero : tie.Need-mul-all-zero
 mul-all-zero c =
@@ -55,7 +59,7 @@ mul-all-zero c =
     let if2 = c .before .before .before .if2 in
     let run-ok = c .before .before .run-ok in
     let if3 = c .before .if3 in
-    let h : args .count ≤ 16 = run-few _ (args .samples .now) (args .words .now) (if1 .left) (if2 .left) (sym (run-ok .ensures) ∙ not-false _ (if3 .left)) in
+    let h : args .count ≤ length (args .samples .now) = run-few _ (args .samples .now) (args .words .now) (if1 .left) (if2 .left) (sym (run-ok .ensures) ∙ not-false _ (if3 .left)) in
     search needs
 
 sub-all-zero : tie.Need-sub-all-zero
@@ -65,7 +69,7 @@ sub-all-zero c =
     let if2 = c .before .before .before .if2 in
     let run-ok = c .before .before .run-ok in
     let if3 = c .before .if3 in
-    let h : args .count ≤ 16 = run-few _ (args .samples .now) (args .words .now) (if1 .left) (if2 .left) (sym (run-ok .ensures) ∙ not-false _ (if3 .left)) in
+    let h : args .count ≤ length (args .samples .now) = run-few _ (args .samples .now) (args .words .now) (if1 .left) (if2 .left) (sym (run-ok .ensures) ∙ not-false _ (if3 .left)) in
     omega (arith, h, if2 .left)
 
 part-all-zero-start : tie.Need-part-all-zero-start
@@ -75,7 +79,7 @@ part-all-zero-start c =
     let if2 = c .before .before .before .if2 in
     let run-ok = c .before .before .run-ok in
     let if3 = c .before .if3 in
-    let h : args .count ≤ 16 = run-few _ (args .samples .now) (args .words .now) (if1 .left) (if2 .left) (sym (run-ok .ensures) ∙ not-false _ (if3 .left)) in
+    let h : args .count ≤ length (args .samples .now) = run-few _ (args .samples .now) (args .words .now) (if1 .left) (if2 .left) (sym (run-ok .ensures) ∙ not-false _ (if3 .left)) in
     omega (arith, h, if2 .left)
 
 part-all-zero-end : tie.Need-part-all-zero-end
@@ -99,6 +103,7 @@ coherent-spec =
     tie.close
     (tie.spec
     returns
+    mul-if2
     returns-2
     run-ok-requires
     returns-3

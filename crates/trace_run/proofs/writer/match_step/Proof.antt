@@ -15,7 +15,7 @@ use Rattle.trace_run.proofs.writer.match_step.Tie as tie
 use Rattle.trace_run.proofs.writer.match_step.Reads as reads
 use Rattle.trace_run.proofs.writer.match_step.Lts as lts
 use Rattle.trace_readers.proofs.state.Trace.with_flow.Reads as with-flow-reads
-use Rattle.writer_steps.proofs.readers.match_reader_in_2.Reads as match-reader-in-2-reads
+use Rattle.writer_steps.proofs.two.match_reader_in_2.Reads as match-reader-in-2-reads
 
 match-reader-in-2-requires : tie.Need-match-reader-in-2-requires
 match-reader-in-2-requires c κs = search needs
@@ -24,7 +24,7 @@ with-flow-requires : tie.Need-with-flow-requires
 with-flow-requires c κs = search needs
 
 returns : tie.Need-returns
-returns c = rw (c .with-flow .ensures, c .before .before .before .before .before .match-reader-in-2 .ensures) refl
+returns c = rw (c .with-flow .ensures, c .before .before .before .before .match-reader-in-2 .ensures) refl
 
 pub match-step-spec : {M : Type 1} → statement M
 match-step-spec = tie.close (tie.spec match-reader-in-2-requires with-flow-requires returns)

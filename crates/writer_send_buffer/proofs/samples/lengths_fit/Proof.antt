@@ -1,79 +1,97 @@
--- `lengths_fit` meets its contract: the slot follows the number around. Assumes nothing.
-use Prim.Native.Nat.{ℕ, _+_, _-_, _<_, _≤_, _%_}
-use mathlib.Core.Path.{_≡_, refl, sym, ap, _∙_}
+-- `lengths_fit` meets its contract: in all of the ring, in one part of it, or in two. Assumes nothing.
+use mathlib.Core.Path.{sym, ap₂, _∙_}
 use mathlib.Core.Bool.{_&&_}
-use mathlib.Core.Logic.{⊎-elim}
-use native.Mathlib.Nat.{mod-lt, add-zero, sub-zero}
 use native.Mathlib.Omega.{arith}
+use native.Mathlib.Nat.{mod-lt}
+use lib.Seq.{length-take-le}
+use Rattle.writer_send_buffer.proofs.Ring.{fit-all, fit-one, fit-two}
 use borrow.Author.Needs.{needs}
-use lib.ListN.{length}
-use Rattle.sets.proofs.Bools.{and-yes}
-use Rattle.writer_send_buffer.specs.Samples.{lengthsFit}
-use Rattle.writer_send_buffer.proofs.Lists.{mod-step, mod-wrap, fit-more}
 use Rattle.writer_send_buffer.proofs.samples.lengths_fit.Statement.{statement}
 use Rattle.writer_send_buffer.proofs.samples.lengths_fit.Tie as tie
 
-abbrev Inv-loop : tie.InvT-loop
-Inv-loop lens from count most fit₀ slot₀ i₀ fit slot i = (i ≤ count) × (slot < length lens) × (slot ≡ (from + i) % length lens) × ((fit && lengthsFit lens (length lens) most (from + i) (count - i)) ≡ lengthsFit lens (length lens) most from count)
+all-at-most-requires : tie.Need-all-at-most-requires
+all-at-most-requires c κs = search needs
 
-abbrev μ-loop : tie.MeasureT-loop
-μ-loop lens from count most fit₀ slot₀ i₀ fit slot i = count - i
+returns : tie.Need-returns
+returns c = c .all-at-most .ensures ∙ fit-all _ _ (c .before .before .before .args .from) _ (c .before .before .before .pre .some) (c .before .if1 .taken)
 
-rem-slot : tie.Need-rem-slot Inv-loop μ-loop
-rem-slot c = search needs
+rem-a : tie.Need-rem-a
+rem-a c = search needs
 
-loop-holds : tie.Need-loop-holds Inv-loop μ-loop
-loop-holds c = (omega arith, mod-lt (c .args .from) (c .pre .some), rw add-zero refl, rw (add-zero, sub-zero) refl)
+add-e : tie.Need-add-e
+add-e c = omega (arith, mod-lt (c .before .before .args .from) (c .before .before .pre .some))
 
-mul-fit : tie.Need-mul-fit Inv-loop μ-loop
-mul-fit c = omega arith
+mul-all-at-most : tie.Need-mul-all-at-most
+mul-all-at-most c = search needs
 
-shared-slice-read-fit : tie.Need-shared-slice-read-fit Inv-loop μ-loop
-shared-slice-read-fit c = omega arith
+sub-all-at-most : tie.Need-sub-all-at-most
+sub-all-at-most c = search needs
 
-add-slot : tie.Need-add-slot Inv-loop μ-loop
-add-slot c = omega arith
+part-all-at-most-start : tie.Need-part-all-at-most-start
+part-all-at-most-start c = search needs
 
-add-i : tie.Need-add-i Inv-loop μ-loop
-add-i c = omega arith
+part-all-at-most-end : tie.Need-part-all-at-most-end
+part-all-at-most-end c = search needs
 
-loop-less : tie.Need-loop-less Inv-loop μ-loop
-loop-less c = omega arith
+all-at-most-requires-2 : tie.Need-all-at-most-requires-2
+all-at-most-requires-2 c κs = search needs
 
-loop-again : tie.Need-loop-again Inv-loop μ-loop
-loop-again c =
-    let l = c .before .before .before .loop in
-    let a = c .before .before .before .before .args in
-    let n = length (a .lens .now) in
-    let q : a .from + l .i + 1 ≡ a .from + (l .i + 1) = omega arith in
-    let some : 0 < n = c .before .before .before .before .pre .some in
-    let next : (c .if1 .slot < n) × (c .if1 .slot ≡ (a .from + l .i + 1) % n) =
-    ⊎-elim
-    (λ w. let t : (a .from + l .i) % n + 1 ≡ n = ap (λ (x : ℕ). x + 1) (sym (l .inv .2)) ∙ w .0 .taken in (omega arith, w .1 ∙ mod-wrap (a .from + l .i) n t))
-    (λ w. let t : (a .from + l .i) % n + 1 < n = omega (arith, l .inv .2) in (omega arith, w .1 ∙ ap (λ (x : ℕ). x + 1) (l .inv .2) ∙ mod-step (a .from + l .i) n t))
-    (c .if1 .came)
-    in
-    (omega arith, next .0, rw (← q) (next .1), rw (l .inv .2) (fit-more (a .lens .now) n (a .most) (a .from) (a .count) (l .i) (l .fit) _ (omega arith) (l .inv .3)))
+returns-2 : tie.Need-returns-2
+returns-2 c = c .all-at-most2 .ensures ∙ fit-one _ _ (c .before .before .before .before .before .args .from) (c .before .before .before .before .before .args .count) (c .before .before .before .before .before .pre .some) (c .before .before .if2 .taken)
 
-returns : tie.Need-returns Inv-loop μ-loop
-returns c =
-    let l = c .before .loop in
-    let a = c .before .before .args in
-    let z : a .count - l .i ≡ 0 = omega arith in
-    sym (and-yes (l .fit)) ∙ rw z at (l .inv .3)
+sub-rest : tie.Need-sub-rest
+sub-rest c = search needs
+
+mul-all-at-most-2 : tie.Need-mul-all-at-most-2
+mul-all-at-most-2 c = omega (arith, mod-lt (c .before .before .before .args .from) (c .before .before .before .pre .some))
+
+sub-all-at-most-2 : tie.Need-sub-all-at-most-2
+sub-all-at-most-2 c = omega (arith, mod-lt (c .before .before .before .args .from) (c .before .before .before .pre .some))
+
+part-all-at-most-start-2 : tie.Need-part-all-at-most-start-2
+part-all-at-most-start-2 c =
+    let k = mod-lt (c .before .before .before .args .from) (c .before .before .before .pre .some) in
+    search needs
+
+part-all-at-most-end-2 : tie.Need-part-all-at-most-end-2
+part-all-at-most-end-2 c = search needs
+
+all-at-most-requires-3 : tie.Need-all-at-most-requires-3
+all-at-most-requires-3 c κs = search needs
+
+slice-aggregate-all-at-most : tie.Need-slice-aggregate-all-at-most
+slice-aggregate-all-at-most c =
+    let start = c .before .before .before .before .before .before in
+    sym (length-take-le _ (start .args .lens .now) (omega (arith, mod-lt (start .args .from) (start .pre .some), start .pre .held)))
+
+all-at-most-requires-4 : tie.Need-all-at-most-requires-4
+all-at-most-requires-4 c κs = search needs
+
+returns-3 : tie.Need-returns-3
+returns-3 c =
+    let start = c .before .before .before .before .before .before .before in
+    ap₂ _&&_ (c .before .before .all-at-most3 .ensures) (c .all-at-most4 .ensures) ∙ fit-two (start .args .lens .now) (start .args .most) (start .args .from) (start .args .count) (start .pre .some) (start .pre .held) (omega arith)
 
 pub lengths-fit-spec : {M : Type 1} → statement M
 lengths-fit-spec =
     tie.close
     (tie.spec
-    Inv-loop
-    μ-loop
-    rem-slot
-    loop-holds
-    mul-fit
-    shared-slice-read-fit
-    add-slot
-    add-i
-    loop-less
-    loop-again
-    returns)
+    all-at-most-requires
+    returns
+    rem-a
+    add-e
+    mul-all-at-most
+    sub-all-at-most
+    part-all-at-most-start
+    part-all-at-most-end
+    all-at-most-requires-2
+    returns-2
+    sub-rest
+    mul-all-at-most-2
+    sub-all-at-most-2
+    part-all-at-most-start-2
+    part-all-at-most-end-2
+    all-at-most-requires-3
+    slice-aggregate-all-at-most
+    all-at-most-requires-4
+    returns-3)

@@ -16,7 +16,7 @@ use Rattle.numbers.proofs.sequence_number.SequenceNumber.rank.Reads as rank-rea
 use Rattle.rtps_reader_proxy.proofs.proxy.ReaderProxy.first_unsent_change.Reads as first-unsent-change-reads
 use Rattle.rtps_reader_proxy.proofs.proxy.ReaderProxy.mark_change_sent.Reads as mark-change-sent-reads
 use Rattle.writer_send_buffer.proofs.flow.WriterSendBuffer.first_change_sequence_number.Reads as first-change-sequence-number-reads
-use Rattle.writer_steps.proofs.answers.earlier.Reads as earlier-reads
+use Rattle.numbers.proofs.answers.earlier.Reads as earlier-reads
 
 -- src/send.rt:24:9
 first-change-sequence-number-requires : tie.Need-first-change-sequence-number-requires

@@ -4,6 +4,9 @@ use borrow.Author.Needs.{needs}
 use Rattle.rtps_reader_proxy.proofs.proxy.ReaderProxy.check_request.Statement.{statement}
 use Rattle.rtps_reader_proxy.proofs.proxy.ReaderProxy.check_request.Tie as tie
 
+room-for-requires : tie.Need-room-for-requires
+room-for-requires c κs = search needs
+
 cannot-ask-requires : tie.Need-cannot-ask-requires
 cannot-ask-requires c κs = search needs
 
@@ -18,12 +21,13 @@ check-frags-requires c κs = search needs
 
 returns : tie.Need-returns
 returns c =
-    let args = c .before .before .before .before .before .before .args in
+    let args = c .before .before .before .before .before .before .before .args in
+    let room-for = c .before .before .before .before .room-for in
     let cannot-ask = c .before .before .before .cannot-ask in
     let rank = c .before .before .rank in
     let no-slot = c .before .no-slot in
-    rows-found (args .n) (args .set) (args .self) (args .samples .now) (args .words .now) (c .check-frags .result) (rank .result) (cannot-ask .result) (no-slot .result) (cannot-ask .ensures) (rank .ensures .is)
-    (no-slot .ensures) (c .check-frags .ensures)
+    rows-found (args .n) (args .set) (args .self) (args .samples .now) (args .words .now) (c .check-frags .result) (rank .result) (room-for .result) (cannot-ask .result) (no-slot .result)
+    (room-for .ensures) (cannot-ask .ensures) (rank .ensures .is) (no-slot .ensures) (c .check-frags .ensures)
 
 pub check-request-spec : {M : Type 1} → statement M
-check-request-spec = tie.close (tie.spec cannot-ask-requires rank-requires no-slot-requires check-frags-requires returns)
+check-request-spec = tie.close (tie.spec room-for-requires cannot-ask-requires rank-requires no-slot-requires check-frags-requires returns)

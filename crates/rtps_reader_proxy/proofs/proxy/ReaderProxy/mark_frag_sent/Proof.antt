@@ -25,7 +25,7 @@ returns : tie.Need-returns
 returns c =
     let args = c .before .before .before .before .before .before .before .args in
     let check-frags = c .before .before .check-frags in
-    frags-refused (args .self) (args .samples .now) (args .words .now) [] (check-frags .result) (check-frags .ensures) (fragSent (rankOf (args .n)) (args .f .0)) (c .if1 .taken)
+    frags-refused (args .self) (args .samples .now) (args .words .now) true [] (check-frags .result) (check-frags .ensures) (fragSent (rankOf (args .n)) (args .f .0)) (c .if1 .taken)
 
 rank-requires : tie.Need-rank-requires
 rank-requires c κs = search needs
@@ -54,7 +54,7 @@ returns-2 c =
     let rank2 = c .before .before .before .before .before .before .rank2 in
     let mark-sent = c .before .before .before .before .before .mark-sent in
     let slice-known4 = c .before .slice-known4 in
-    sent-done (args .self) (args .samples .now) (args .words .now) [] (check-frags .result) (check-frags .ensures) (if1 .left) (rankOf (args .n)) (args .f .0) (mark-sent .result) (mark-sent .last .0)
+    sent-done (args .self) (args .samples .now) (args .words .now) true [] (check-frags .result) (check-frags .ensures) (if1 .left) (rankOf (args .n)) (args .f .0) (mark-sent .result) (mark-sent .last .0)
     (mark-sent .last .1 .0) (c .with-frags .result) (c .with-frags .ensures) (λ (i : ℕ). omega (arith, slice-known4 .given i)) (rw (← rank .ensures .is, ← rank2 .ensures) (mark-sent .ensures))
 
 pub mark-frag-sent-spec : {M : Type 1} → statement M

@@ -18,7 +18,7 @@ use Rattle.trace_readers.proofs.state.Trace.ack_taken.Lts as lts
 use Rattle.trace_readers.proofs.gaps_at.Reads as gaps-at-reads
 use Rattle.trace_readers.proofs.state.Trace.reader.Reads as reader-reads
 use Rattle.trace_readers.proofs.unsent_at.Reads as unsent-at-reads
-use Rattle.writer_steps.proofs.acks.take_ack_nack_in_2.Reads as take-ack-nack-in-2-reads
+use Rattle.writer_steps.proofs.two.take_ack_nack_in_2.Reads as take-ack-nack-in-2-reads
 
 unsent-at-requires : tie.Need-unsent-at-requires
 unsent-at-requires c κs = search needs

@@ -23,7 +23,7 @@ use Rattle.trace_readers.proofs.frags.frag_answer.Reads as frag-answer-
 use Rattle.trace_readers.proofs.state.Trace.reader.Reads as reader-reads
 use Rattle.trace_readers.proofs.state.Trace.refused.Reads as refused-reads
 use Rattle.trace_readers.proofs.state.Trace.with_reader.Reads as with-reader-reads
-use Rattle.writer_steps.proofs.answers.earlier.Reads as earlier-reads
+use Rattle.numbers.proofs.answers.earlier.Reads as earlier-reads
 
 reader-requires : tie.Need-reader-requires
 reader-requires c κs = search needs

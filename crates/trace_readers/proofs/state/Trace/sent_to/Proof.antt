@@ -23,7 +23,7 @@ use Rattle.trace_readers.proofs.state.Trace.with_flow.Reads as with-flo
 use Rattle.trace_readers.proofs.state.Trace.with_reader.Reads as with-reader-reads
 use Rattle.trace_readers.proofs.state.coherence.Reads as coherence-reads
 use Rattle.writer_send_buffer.proofs.flow.WriterSendBuffer.with_sent_frontier.Reads as with-sent-frontier-reads
-use Rattle.writer_steps.proofs.answers.earlier.Reads as earlier-reads
+use Rattle.numbers.proofs.answers.earlier.Reads as earlier-reads
 
 reader-requires : tie.Need-reader-requires
 reader-requires c κs = search needs

@@ -2,7 +2,7 @@
 use mathlib.Core.Path.{sym, _∙_}
 use native.Mathlib.Omega.{arith}
 use borrow.Author.Tests.{eq-eqb, ne-eqb, not-false, not-true}
-use Rattle.writer_send_buffer.proofs.Lists.{area}
+use Rattle.writer_send_buffer.proofs.Slots.{area}
 use Rattle.writer_send_buffer.proofs.Sound.{coherent-is}
 use borrow.Author.Needs.{needs}
 use Rattle.writer_send_buffer.proofs.flow.WriterSendBuffer.is_coherent_store.Statement.{
@@ -52,7 +52,7 @@ lengths-fit-requires c κs =
     let rank = c .before .before .rank in
     let rank2 = c .before .rank2 in
     let co = coherent-is (args .self) (sym (is-coherent .ensures) ∙ not-false (is-coherent .result) (if1 .left)) in
-    record { some = omega (arith, co .limits .slots-some); small = omega (arith, co .numbers .first-some, co .numbers .first-in, co .numbers .last-most, c .above .ensures, rank2 .ensures .is, rank .ensures .is) }
+    record { some = omega (arith, co .limits .slots-some); few = omega (arith, co .limits .slots-few); held = omega (arith, co .numbers .held, c .above .ensures, rank2 .ensures .is, rank .ensures .is) }
 
 returns-4 : tie.Need-returns-4
 returns-4 c =

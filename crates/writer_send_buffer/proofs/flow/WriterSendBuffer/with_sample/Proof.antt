@@ -15,7 +15,7 @@ use Rattle.writer_send_buffer.specs.declared.flow.WriterSendBuffer.{Writ
 use Rattle.writer_send_buffer.specs.Flow.{admitted}
 use Rattle.writer_send_buffer.specs.Buffer.{view, form, noNumber}
 use Rattle.writer_send_buffer.specs.Samples.{writeRows, admitOf, handed, over, startOf, slotOf}
-use Rattle.writer_send_buffer.proofs.Lists.{slot-in}
+use Rattle.writer_send_buffer.proofs.Slots.{slot-in}
 use Rattle.writer_send_buffer.proofs.Sound.{written-is, slot-below, next-slot}
 use borrow.Author.Needs.{needs}
 use Rattle.writer_send_buffer.proofs.flow.WriterSendBuffer.with_sample.Statement.{

@@ -1,0 +1,55 @@
+-- `admitted` meets its contract. Assumes nothing.
+use mathlib.Core.Path.{_≡_, refl}
+use mathlib.Core.Bool.{true}
+use mathlib.Core.List.{[], _∷_}
+use borrow.Author.Needs.{needs}
+use borrow.Author.Tests.{not-true, not-false}
+use Rattle.numbers.specs.Refusals.{row, rowsOf, answerOf}
+use Rattle.writer_write.proofs.Writes.{admit-unsound, admit-sound}
+use Rattle.writer_write.proofs.write.admitted.Statement.{statement}
+use Rattle.writer_write.proofs.write.admitted.Tie as tie
+
+none-requires : tie.Need-none-requires
+none-requires c κs = search needs
+
+of-requires : tie.Need-of-requires
+of-requires c κs = search needs
+
+from-rank-requires : tie.Need-from-rank-requires
+from-rank-requires c κs = search needs
+
+returns : tie.Need-returns
+returns c =
+    let a = c .before .before .before .before .before .before .before .args in
+    let of = c .before .of in
+    let none = c .before .before .none in
+    let is : of .result ≡ answerOf (rowsOf (row 1 true ∷ [])) = rw (of .ensures, none .ensures) refl in
+    admit-unsound (a .flow) (a .store .now) (a .lens .now) (a .payload .now) (a .opted) (a .sound) (not-true (a .sound) (c .before .before .before .if1 .taken)) (of .result) is (c .from-rank .result) (c .from-rank .ensures)
+
+with-sample-requires : tie.Need-with-sample-requires
+with-sample-requires c κs = search needs
+
+same-length : tie.Need-same-length
+same-length c = search needs
+
+same-length-2 : tie.Need-same-length-2
+same-length-2 c = search needs
+
+returns-2 : tie.Need-returns-2
+returns-2 c =
+    let a = c .before .before .before .before .before .before .before .before .before .before .before .args in
+    let sample = c .before .before .before .before .with-sample in
+    admit-sound (a .flow) (a .store .now) (a .lens .now) (a .payload .now) (a .opted) (a .sound) (not-false (a .sound) (c .before .before .before .before .before .before .before .if1 .left)) (sample .result) (sample .last .1 .0) (sample .last .1 .1 .0) (sample .ensures)
+
+pub admitted-spec : {M : Type 1} → statement M
+admitted-spec =
+    tie.close
+    (tie.spec
+    none-requires
+    of-requires
+    from-rank-requires
+    returns
+    with-sample-requires
+    same-length
+    same-length-2
+    returns-2)

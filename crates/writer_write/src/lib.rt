@@ -1,0 +1,5 @@
+// A write that tells every reader, in place: the readers' heads side by side in one lent list, their unsent rooms side by side in one lent room.
+mod places;
+pub mod put;
+pub mod sound;
+pub mod write;
