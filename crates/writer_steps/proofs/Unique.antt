@@ -12,6 +12,7 @@ use Rattle.rtps_reader_proxy.specs.declared.proxy.Changed.{Changed}
 use Rattle.reader_list.specs.declared.heads.ReaderHead.{ReaderHead}
 use Rattle.writer_send_buffer.specs.declared.flow.WriterSendBuffer.{WriterSendBuffer}
 use Rattle.writer_steps.specs.declared.send.Sent.{Sent}
+use Rattle.writer_steps.specs.declared.many.SentMany.{SentMany}
 use Rattle.reader_list.specs.declared.calls.Match.{Match}
 use Rattle.writer_send_buffer.specs.declared.flow.Told.{Told}
 use Rattle.writer_steps.specs.declared.acks.AckTold.{AckTold}
@@ -19,9 +20,14 @@ use Rattle.writer_steps.specs.Readers.{matchStep, departStep}
 use Rattle.writer_steps.specs.Send.{sendOf}
 use Rattle.writer_steps.specs.Acks.{ackStep}
 use Rattle.writer_steps.specs.Frags.{nackFragStep}
+use Rattle.writer_steps.specs.Many.{sendManyOf}
 
 pub one-send : (f : WriterSendBuffer) (h : ReaderProxy) (l : List ℕ) (r s : Sent) (u v : List ℕ) → Gives1 r u (sendOf f h l) → Gives1 s v (sendOf f h l) → (r ≡ s) × (u ≡ v)
 one-send f h l r s u v p q = one1 p q
+
+module _ (f : WriterSendBuffer) (space : ℕ) (lens : List ℕ) (h : ReaderProxy) (l ns ss ls u v w x u′ v′ w′ x′ : List ℕ) where
+  pub one-send-many : (r s : SentMany) → Gives4 r u v w x (sendManyOf f space lens h l ns ss ls) → Gives4 s u′ v′ w′ x′ (sendManyOf f space lens h l ns ss ls) → (r ≡ s) × (u ≡ u′) × (v ≡ v′) × (w ≡ w′) × (x ≡ x′)
+  one-send-many r s p q = one4 p q
 
 module _ (hs : List ReaderHead) (i : ℕ) (n : SequenceNumber) (set : FragmentNumberSet) (h : ReaderProxy) (samples words u v x y : List ℕ) where
   pub one-nack-frag : (r s : Changed) → Gives2 r u x (nackFragStep hs i n set h samples words) → Gives2 s v y (nackFragStep hs i n set h samples words) → (r ≡ s) × (u ≡ v) × (x ≡ y)
