@@ -9,13 +9,14 @@ use native.Mathlib.Omega.{arith}
 use borrow.Author.Tests.{ltb-true}
 use Rattle.sets.specs.Sets.{has}
 use Rattle.reader_record.proofs.Whole.{form-coherent}
+use Rattle.writer_send_buffer.specs.declared.limits.Kind.{Kind}
 use Rattle.writer_send_buffer.proofs.Window.{no-trim-with-readers}
 use Rattle.writer_send_buffer.proofs.Steps.{form-coherent as flow-coherent}
 use Rattle.other_end.specs.Model.{base}
-use Rattle.other_end.specs.System.{Line, State, start}
+use Rattle.other_end.specs.System.{Line, State, find, start}
 use Rattle.other_end.specs.Rounds.{Round, Rounds, cleanRound, cleanRounds}
 use Rattle.other_end.specs.Coherent.{Coherent}
-use Rattle.other_end.specs.Demand3.{Reached, Present, Kept, HasData, HasSettled, Moved, roundsFor, Demand3}
+use Rattle.other_end.specs.Demand3.{Reached, Present, Kept, HasData, HasSettled, StaysKept, Moved, roundsFor, Demand3}
 use Rattle.other_end.proofs.Gaps.{gap-ge, gap-all, gap-not}
 use Rattle.other_end.proofs.Heads.{frontier-low}
 use Rattle.other_end.proofs.Forms.{list-coherent}
@@ -23,9 +24,10 @@ use Rattle.other_end.proofs.Fine.{Fine, base-pos}
 use Rattle.other_end.proofs.Sound.{Sound}
 use Rattle.other_end.proofs.Runs.{sound-run, sound-start}
 use Rattle.other_end.proofs.AsCalled.{starts, as-called}
-use Rattle.other_end.proofs.Round.{round-moves}
+use Rattle.other_end.proofs.Exchange.{Same}
+use Rattle.other_end.proofs.Round.{Runs, runs-round, round-moves}
 use Rattle.other_end.proofs.OneByOne.{one-round}
-use Rattle.other_end.proofs.Rounds.{reached-round, levelled, enough}
+use Rattle.other_end.proofs.Rounds.{rounds-run, reached-runs, kind-runs, levelled, enough}
 
 pub sound : (s : State) → Reached s → Sound s
 sound s r = subst Sound (r .comes) (sound-run (r .events) (start (r .kind) (r .limits) (r .slots)) (sound-start (r .kind) (r .limits) (r .slots) (r .allowed) (r .some) (r .few)))
@@ -49,23 +51,50 @@ module _ (s : State) (i : ℕ) (l : Line) (p : Present s i l) where
   told : (n : ℕ) → 1 ≤ n → n < max 1 (l .server .acked) → HasSettled l n
   told n a q = gap-all 1 (l .model .settled) n (fine .rise) a (omega (arith, fine .credit (p .anew), base-pos (s .flow) (s .careful) (s .net) l fine))
 
+module _ (s : State) (i : ℕ) (l : Line) (k : Kept s i l) where
+  kept : (s .flow .first ≤ max 1 (l .server .acked)) × (l .model .settled ≡ l .model .samples)
+  kept = fine s i l (k .present) .kept (k .writer, k .careful) (k .early, k .reliable, k .present .anew)
+
+  below : (n : ℕ) → 1 ≤ n → n < max 1 (l .server .acked) → HasData l n
+  below n a q = subst (λ (u : List ℕ). has u n ≡ true) (kept .1) (told s i l (k .present) n a q)
+
+  held : (n : ℕ) → 1 ≤ n → n < base (l .model) → HasData l n
+  held n a q = subst (λ (u : List ℕ). has u n ≡ true) (kept .1) (gap-all 1 (l .model .settled) n (fine s i l (k .present) .rise) a q)
+
+-- a line that is there after a run, the same as before
+stays : (s : State) (i : ℕ) (l : Line) → Present s i l → (s′ : State) (l′ : Line) → Runs s s′ → find i (s′ .lines) ≡ some l′ → Same l l′ → Present s′ i l′ × StaysKept s s′ i l l′
+stays s i l p s′ l′ r f e = (there, λ k c. let w = still k c in (w, held s′ i l′ w))
+  where
+    there : Present s′ i l′
+    there = record { reached = reached-runs s s′ (p .reached) r; there = f; anew = e .anew ∙ p .anew }
+
+    still : Kept s i l → s′ .careful ≡ true → Kept s′ i l′
+    still k c =
+        record { present = there; reliable = e .reliable ∙ k .reliable; early = e .since ∙ k .early; writer = ap (λ (k : Kind). k .reliable) (kind-runs s s′ r) ∙ k .writer; careful = c }
+
+module _ (s : State) (i : ℕ) (l : Line) (p : Present s i l) where
   level : (s′ : State) (r : ℕ) → Rounds i r s s′
       → (l′ : Line) × Present s′ i l′ × (s′ .flow .last ≡ s .flow .last)
       × ((n : ℕ) → base (l .model) + n ≡ suc (s .flow .last) → roundsFor n (min 256 (l .server .cap)) ≤ r → base (l′ .model) ≡ suc (s .flow .last))
       × (1 ≤ r → (l′ .server .acked ≡ base (l′ .model)) × (base (l′ .model) ≡ suc (s .flow .last) → l′ .server .unsent ≡ []))
+      × StaysKept s s′ i l l′
   level s′ r d =
-      let v = levelled i r l s s′ (p .reached) (sound s (p .reached)) (p .anew) (p .there) d in (
+      let v = levelled i r l s s′ (sound s (p .reached)) (p .anew) (p .there) d in
+      let w = stays s i l p s′ (v .line) (rounds-run i r s s′ d) (v .found) (v .same) in (
         v .line,
-        record { reached = v .reached; there = v .found; anew = v .anew ∙ p .anew },
+        w .0,
         v .last,
-        λ n e q. let z = v .on (suc (s .flow .last)) (omega arith) (enough (base (l .model)) n (min 256 (l .server .cap)) r (suc (s .flow .last)) (omega (arith, fine .valid .cap-low)) e q) in omega (arith, z, v .within),
+        λ n e q. let z = v .on (suc (s .flow .last)) (omega arith) (enough (base (l .model)) n (min 256 (l .server .cap)) r (suc (s .flow .last)) (omega (arith, fine s i l p .valid .cap-low)) e q) in omega (arith, z, v .within),
         λ q. v .agrees (λ e. absurd (omega arith)),
+        w .1,
       )
 
-  round : (s′ : State) → Round i s s′ → (l′ : Line) × Present s′ i l′ × (s′ .flow .last ≡ s .flow .last) × (l′ .server .cap ≡ l .server .cap) × Moved (s .flow .last) l l′
+  round : (s′ : State) → Round i s s′
+      → (l′ : Line) × Present s′ i l′ × (s′ .flow .last ≡ s .flow .last) × (l′ .server .cap ≡ l .server .cap) × Moved (s .flow .last) l l′ × StaysKept s s′ i l l′
   round s′ d =
-      let m = round-moves i l s (sound s (p .reached)) (p .there) s′ (p .anew) d in
-      (m .0, record { reached = reached-round i s s′ (p .reached) d; there = m .1; anew = m .4 ∙ p .anew }, m .2, m .3, m .5)
+      let m = round-moves i l (s .flow .last) s s′ (sound s (p .reached)) (record { found = p .there; last = refl }) (p .anew) d in
+      let w = stays s i l p s′ (m .0) (runs-round i s s′ d) (m .1) (m .3) in
+      (m .0, w .0, m .2, m .3 .cap, m .4, w .1)
 
 always : (r : ℕ) (s : State) (i : ℕ) (l : Line) → Present s i l → Rounds i r s (cleanRounds i r s)
 always zero s i l p = refl
@@ -79,13 +108,6 @@ pub base-is : (s : State) (i : ℕ) (l : Line) → Present s i l → (1 ≤ base
 base-is s i l p =
     let f = fine s i l p in
     (gap-ge 1 (l .model .settled), gap-not 1 (l .model .settled) (f .rise), λ n a q. gap-all 1 (l .model .settled) n (f .rise) a q)
-
-module _ (s : State) (i : ℕ) (l : Line) (k : Kept s i l) where
-  kept : (s .flow .first ≤ max 1 (l .server .acked)) × (l .model .settled ≡ l .model .samples)
-  kept = fine s i l (k .present) .kept (k .writer, k .careful) (k .early, k .reliable, k .present .anew)
-
-  below : (n : ℕ) → 1 ≤ n → n < max 1 (l .server .acked) → HasData l n
-  below n a q = subst (λ (u : List ℕ). has u n ≡ true) (kept .1) (told s i l (k .present) n a q)
 
 pub demand-3 : Demand3
 demand-3 =

@@ -10,6 +10,7 @@ pub mod Fine
 pub mod Sound
 pub mod Joins
 pub mod Runs
+pub mod Beside
 pub mod Exchange
 pub mod Round
 pub mod OneByOne

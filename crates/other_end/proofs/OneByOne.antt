@@ -2,6 +2,7 @@
 use Prim.Native.Nat.{ℕ, zero, suc, _+_, _-_, _≤_, _<_, max}
 use mathlib.Core.Path.{_≡_, refl, sym, ap, subst, _∙_}
 use mathlib.Core.Bool.{Bool, true, false, not, cond, _||_}
+use mathlib.Core.Logic.{inl, inr}
 use mathlib.Core.List.{List, [], _∷_}
 use mathlib.Core.Option.{Option, some}
 use lib.Dec.{eqb}
@@ -14,14 +15,15 @@ use Rattle.sets.proofs.Has.{has-insert}
 use Rattle.rising.proofs.Meaning.{only-all}
 use Rattle.rtps_reader_proxy.specs.Reader.{markedSent}
 use Rattle.writer_send_buffer.specs.Flow.{retained}
-use Rattle.other_end.specs.Model.{gotData, gotGap}
-use Rattle.other_end.specs.System.{Line, Body, sample, gap, beat, ack, Msg, State, send, deliver, find, upd, nth, onServer, onModel, withLines, post, step, run}
-use Rattle.other_end.specs.Rounds.{opened, sends, unsentOf, drained, cleanRound, Exchange, SettledAt, Received, Round}
+use Rattle.other_end.specs.Model.{gotData, gotGap, ackNack}
+use Rattle.other_end.specs.System.{Line, Body, sample, gap, beat, ack, Msg, State, Event, heartbeat, send, reply, deliver, find, upd, nth, onServer, onModel, withLines, post, beatTo, replyFrom, step, run}
+use Rattle.other_end.specs.Rounds.{Each, Carried, Allowed, opened, sends, unsentOf, drained, cleanRound, SettledAt, Received, Round}
 use Rattle.other_end.proofs.Found.{some-line, some-msg, find-same}
 use Rattle.other_end.proofs.Sound.{Sound}
 use Rattle.other_end.proofs.Runs.{sound-run}
-use Rattle.other_end.proofs.Exchange.{At, send-is}
-use Rattle.other_end.proofs.Round.{begun, at-begun, sound-begun}
+use Rattle.other_end.proofs.Beside.{At}
+use Rattle.other_end.proofs.Exchange.{send-is, carried-beat}
+use Rattle.other_end.proofs.Round.{beaten, replied, at-replied}
 
 without-head : (b m : ℕ) (ms : List ℕ) → From b (m ∷ ms) → without m (m ∷ ms) ≡ ms
 without-head b m ms h =
@@ -34,7 +36,7 @@ record Waits (i n old : ℕ) (ms : List ℕ) (s : State) : Type 0 where
   at : At i line n s
   unsent : line .server .unsent ≡ ms
   long : old ≤ length (s .net)
-  received : Received old line s
+  received : Received i old line s
 
 waits-on : (i n old m : ℕ) (ms : List ℕ) (s : State) → Sound s → Waits i n old (m ∷ ms) s → (old < length (step (send i) s .net)) × Waits i n old ms (step (deliver 0) (step (send i) s))
 waits-on i n old m ms s h w =
@@ -59,9 +61,9 @@ waits-on i n old m ms s h w =
     more l′ e (ack z) g = tt
 
     all : (l′ : Line) → l′ .model .settled ≡ insert m (w .line .model .settled) → (b : Body) → SettledAt l′ b
-        → (k : ℕ) (p : Msg) → k + old < suc (length (s .net)) → nth (record { line = i; body = b } ∷ s .net) k ≡ some p → SettledAt l′ (p .body)
-    all l′ e b g zero p q f = subst (λ (y : Msg). SettledAt l′ (y .body)) (some-msg f) g
-    all l′ e b g (suc k) p q f = more l′ e (p .body) (w .received k p (omega arith) f)
+        → (k : ℕ) (p : Msg) → k + old < suc (length (s .net)) → nth (record { line = i; body = b } ∷ s .net) k ≡ some p → p .line ≡ i → SettledAt l′ (p .body)
+    all l′ e b g zero p q f o = subst (λ (y : Msg). SettledAt l′ (y .body)) (some-msg f) g
+    all l′ e b g (suc k) p q f o = more l′ e (p .body) (w .received k p (omega arith) f o)
 
     go : (t : Bool) → Waits i n old ms (step (deliver 0) (post i (cond t (sample m) (gap m)) (withLines (upd i (onServer (markedSent m)) (s .lines)) s)))
     go true =
@@ -81,28 +83,53 @@ waits-on i n old m ms s h w =
           received = all (onModel (gotGap m) (onServer (markedSent m) (w .line))) refl (gap m) own;
         }
 
-drains : (i n old : ℕ) (u : List ℕ) (s : State) → Sound s → Waits i n old u s → Exchange i old (sends i (length u)) s × Waits i n old [] (run (sends i (length u)) s)
+drains : (i n old : ℕ) (u : List ℕ) (s : State) → Sound s → Waits i n old u s → Each (Allowed i old) (sends i (length u)) s × Waits i n old [] (run (sends i (length u)) s)
 drains i n old [] s h w = (tt, w)
 drains i n old (m ∷ ms) s h w =
     let o = waits-on i n old m ms s h w in
     let r = drains i n old ms (step (deliver 0) (step (send i) s)) (sound-run (send i ∷ deliver 0 ∷ []) s h) (o .1) in
-    ((refl, (omega (arith, o .0), r .0)), r .1)
+    ((inr (inl refl), (inr (inr (0, refl, omega (arith, o .0))), r .0)), r .1)
+
+-- the message that e puts into the network arrives at once
+at-once : (i : ℕ) (e : Event) (b : Body) (s : State) → step e s ≡ post i b s → Carried i e s (step (deliver 0) (step e s))
+at-once i e b s puts = record { meanwhile = []; beside = tt; place = 0; that = omega (arith, ap (λ (y : State). length (y .net)) puts); ends = refl }
+
+beats : (i : ℕ) (l : Line) (s : State) → find i (s .lines) ≡ some l → Carried i (heartbeat i) s (run (heartbeat i ∷ deliver 0 ∷ []) s)
+beats i l s found = at-once i (heartbeat i) (beat (s .flow .last)) s (ap (λ (o : Option Line). beatTo i o s) found)
+
+replies : (i : ℕ) (l : Line) (s : State) → find i (s .lines) ≡ some l → Carried i (reply i) s (run (reply i ∷ deliver 0 ∷ []) s)
+replies i l s found = at-once i (reply i) (ack (ackNack (l .model))) s (ap (λ (o : Option Line). replyFrom i o s) found)
 
 pub one-round : (i : ℕ) (l : Line) (s : State) → Sound s → find i (s .lines) ≡ some l → Round i s (cleanRound i s)
 one-round i l s h found =
     record {
+      heard = run (heartbeat i ∷ deliver 0 ∷ []) s;
+      announced = beats i l s found;
+      before = [];
+      beside = tt;
+      begun = opened i s;
+      first = first;
       events = sends i (unsentOf (find i (opened i s .lines)));
       exchange = all .0;
       drained = λ l₂ e. subst (λ (y : Line). y .server .unsent ≡ []) (some-line (sym (all .1 .at .found) ∙ e)) (all .1 .unsent);
-      received = λ l₂ e. subst (λ (y : Line). Received (length (opened i s .net)) y (drained i (opened i s))) (some-line (sym (all .1 .at .found) ∙ e)) (all .1 .received);
-      ends = refl;
+      received = λ l₂ e. subst (λ (y : Line). Received i (length (opened i s .net)) y (drained i (opened i s))) (some-line (sym (all .1 .at .found) ∙ e)) (all .1 .received);
+      second = replies i (all .1 .line) (drained i (opened i s)) (all .1 .at .found);
     }
   where
-    a₁ : At i (begun i l s h found) (s .flow .last) (opened i s)
-    a₁ = at-begun i l s h found
+    at₁ : At i (beaten (s .flow .last) l) (s .flow .last) (run (heartbeat i ∷ deliver 0 ∷ []) s)
+    at₁ = carried-beat i l (s .flow .last) s (run (heartbeat i ∷ deliver 0 ∷ []) s) h (record { found = found; last = refl }) (beats i l s found)
 
-    all : Exchange i (length (opened i s .net)) (sends i (unsentOf (find i (opened i s .lines)))) (opened i s) × Waits i (s .flow .last) (length (opened i s .net)) [] (drained i (opened i s))
+    first : Carried i (reply i) (run (heartbeat i ∷ deliver 0 ∷ []) s) (opened i s)
+    first = replies i (beaten (s .flow .last) l) (run (heartbeat i ∷ deliver 0 ∷ []) s) (at₁ .found)
+
+    l₂ : Line
+    l₂ = replied (s .flow .last) (beaten (s .flow .last) l)
+
+    at₂ : At i (replied (s .flow .last) (beaten (s .flow .last) l)) (s .flow .last) (opened i s)
+    at₂ = at-replied i (beaten (s .flow .last) l) (s .flow .last) (run (heartbeat i ∷ deliver 0 ∷ []) s) (opened i s) (sound-run (heartbeat i ∷ deliver 0 ∷ []) s h) at₁ first
+
+    all : Each (Allowed i (length (opened i s .net))) (sends i (unsentOf (find i (opened i s .lines)))) (opened i s) × Waits i (s .flow .last) (length (opened i s .net)) [] (drained i (opened i s))
     all =
-        subst (λ (o : Option Line). Exchange i (length (opened i s .net)) (sends i (unsentOf o)) (opened i s) × Waits i (s .flow .last) (length (opened i s .net)) [] (run (sends i (unsentOf o)) (opened i s))) (sym (a₁ .found))
-        (drains i (s .flow .last) (length (opened i s .net)) (begun i l s h found .server .unsent) (opened i s) (sound-begun i l s h found)
-        (record { line = begun i l s h found; at = a₁; unsent = refl; long = omega arith; received = λ k m q e. absurd (omega arith) }))
+        subst (λ (o : Option Line). Each (Allowed i (length (opened i s .net))) (sends i (unsentOf o)) (opened i s) × Waits i (s .flow .last) (length (opened i s .net)) [] (run (sends i (unsentOf o)) (opened i s))) (sym (at₂ .found))
+        (drains i (s .flow .last) (length (opened i s .net)) (l₂ .server .unsent) (opened i s) (sound-run (heartbeat i ∷ deliver 0 ∷ reply i ∷ deliver 0 ∷ []) s h)
+        (record { line = l₂; at = at₂; unsent = refl; long = omega arith; received = λ k m q e o. absurd (omega arith) }))

@@ -1,9 +1,9 @@
 -- One clean round, from any state that is sound: what it makes of the line. Assumes nothing.
 use Prim.Native.Nat.{ℕ, zero, suc, _+_, _-_, _≤_, _<_, min}
-use mathlib.Core.Path.{_≡_, refl, ap, subst, _∙_}
+use mathlib.Core.Path.{_≡_, refl, sym, ap, subst, _∙_}
 use mathlib.Core.Bool.{Bool, true, false, cond, _||_}
 use mathlib.Core.Logic.{_⊎_, inl, inr}
-use mathlib.Core.List.{List, [], _∷_}
+use mathlib.Core.List.{List, [], _∷_, _++_}
 use mathlib.Core.Option.{some}
 use lib.Dec.{ltb}
 use lib.ListN.{length, take}
@@ -15,15 +15,51 @@ use Rattle.sets.proofs.Has.{has-union}
 use Rattle.sets.proofs.Smallest.{has-take}
 use Rattle.rtps_reader_proxy.specs.Reader.{baseOf, isLate, ackedAfter, staying, wanted, acknowledge}
 use Rattle.other_end.specs.Model.{gotBeat, base, bits, asked, missing}
-use Rattle.other_end.specs.System.{Line, State, heartbeat, reply, deliver, find, onServer, onModel, run}
-use Rattle.other_end.specs.Rounds.{opened, closed, Round}
+use Rattle.other_end.specs.System.{Line, State, Event, heartbeat, reply, deliver, find, onServer, onModel, step, run}
+use Rattle.other_end.specs.Rounds.{Carried, Round}
 use Rattle.other_end.specs.Demand3.{Moved}
 use Rattle.other_end.proofs.Gaps.{gap-ge, gap-all, gap-past, has-missing}
 use Rattle.other_end.proofs.Records.{Above, between-in, wanted-rise}
 use Rattle.other_end.proofs.Fine.{Fine, base-last}
 use Rattle.other_end.proofs.Sound.{Sound}
 use Rattle.other_end.proofs.Runs.{sound-run}
-use Rattle.other_end.proofs.Exchange.{At, at-beat, at-ack, Moving, moving-run, moving-start, Drained, moving-drained}
+use Rattle.other_end.proofs.Beside.{At, beside-at}
+use Rattle.other_end.proofs.Exchange.{Same, carried-beat, carried-ack, Moving, moving-run, moving-start, Drained, moving-drained}
+
+-- A ROUND IS A RUN
+
+abbrev pub Runs : State → State → Type 0
+Runs s t = (es : List Event) × (run es s ≡ t)
+
+run-both : (xs ys : List Event) (s : State) → run (xs ++ ys) s ≡ run ys (run xs s)
+run-both [] ys s = refl
+run-both (x ∷ xs) ys s = run-both xs ys (step x s)
+
+pub runs-on : (s t u : State) → Runs s t → Runs t u → Runs s u
+runs-on s t u p q = (p .0 ++ q .0, run-both (p .0) (q .0) s ∙ ap (run (q .0)) (p .1) ∙ q .1)
+
+pub sound-runs : (s t : State) → Sound s → Runs s t → Sound t
+sound-runs s t h r = subst Sound (r .1) (sound-run (r .0) s h)
+
+carried-runs : (i : ℕ) (e : Event) (s s′ : State) → Carried i e s s′ → Runs s s′
+carried-runs i e s s′ c = (e ∷ c .meanwhile ++ (deliver (c .place) ∷ []), run-both (c .meanwhile) (deliver (c .place) ∷ []) (step e s) ∙ c .ends)
+
+-- until the heartbeat has arrived, the first ACKNACK is sent, has arrived, and the second is sent
+module _ (i : ℕ) (s s′ : State) (r : Round i s s′) where
+  runs-heard : Runs s (r .heard)
+  runs-heard = carried-runs i (heartbeat i) s (r .heard) (r .announced)
+
+  runs-reply : Runs s (run (r .before) (r .heard))
+  runs-reply = runs-on s (r .heard) (run (r .before) (r .heard)) runs-heard (r .before, refl)
+
+  runs-begun : Runs s (r .begun)
+  runs-begun = runs-on s (run (r .before) (r .heard)) (r .begun) runs-reply (carried-runs i (reply i) (run (r .before) (r .heard)) (r .begun) (r .first))
+
+  runs-drained : Runs s (run (r .events) (r .begun))
+  runs-drained = runs-on s (r .begun) (run (r .events) (r .begun)) runs-begun (r .events, refl)
+
+  pub runs-round : Runs s s′
+  runs-round = runs-on s (run (r .events) (r .begun)) s′ runs-drained (carried-runs i (reply i) (run (r .events) (r .begun)) s′ (r .second))
 
 -- THE TWO ACKNACKS
 
@@ -75,89 +111,89 @@ closes n l credit kn e = (omega (arith, credit, gap-ge 1 (l .model .settled)), n
 
 -- THE ROUND
 
-module _ (i : ℕ) (l : Line) (s : State) (h : Sound s) (found : find i (s .lines) ≡ some l) where
-  -- what the line is once the first ACKNACK is taken
-  abbrev pub beaten : Line
-  beaten = onModel (gotBeat (s .flow .last)) l
+-- what the line is once it has heard the heartbeat, and what an ACKNACK makes of it
+abbrev pub beaten : ℕ → Line → Line
+beaten n l = onModel (gotBeat n) l
 
-  abbrev pub begun : Line
-  begun = onServer (acknowledge (s .flow .last) (base (l .model)) (asked (beaten .model))) beaten
+abbrev pub replied : ℕ → Line → Line
+replied n l = onServer (acknowledge n (base (l .model)) (asked (l .model))) l
 
-  at-beaten : At i beaten (s .flow .last) (run (heartbeat i ∷ deliver 0 ∷ []) s)
-  at-beaten = at-beat i l (s .flow .last) s (record { found = found; last = refl })
+pub at-replied : (i : ℕ) (l : Line) (n : ℕ) (s s′ : State) → Sound s → At i l n s → Carried i (reply i) s s′ → At i (replied n l) n s′
+at-replied i l n s s′ h a c = carried-ack i l n s s′ h a (omega (arith, base-last (s .flow) (s .careful) (s .net) l (h .lines i l (a .found)), a .last)) c
 
-  sound-beaten : Sound (run (heartbeat i ∷ deliver 0 ∷ []) s)
-  sound-beaten = sound-run (heartbeat i ∷ deliver 0 ∷ []) s h
+module _ (i : ℕ) (l : Line) (n : ℕ) (s s′ : State) (h : Sound s) (a : At i l n s) (new : l .anew ≡ true) (r : Round i s s′) where
+  -- the states in which the two ACKNACKs are sent, and what the line is when it sends the first and when that is taken
+  abbrev s₁ : State
+  s₁ = run (r .before) (r .heard)
 
-  pub at-begun : At i begun (s .flow .last) (opened i s)
-  at-begun =
-      let t = run (heartbeat i ∷ deliver 0 ∷ []) s in
-      let f = sound-beaten .lines i beaten (at-beaten .found) in
-      at-ack i beaten (s .flow .last) t at-beaten (sound-beaten .held i beaten (at-beaten .found))
-      (omega (arith, base-last (t .flow) (t .careful) (t .net) beaten f, at-beaten .last))
+  abbrev s₂ : State
+  s₂ = run (r .events) (r .begun)
 
-  pub sound-begun : Sound (opened i s)
-  sound-begun = sound-run (heartbeat i ∷ deliver 0 ∷ reply i ∷ deliver 0 ∷ []) s h
+  abbrev l₁ : Line
+  l₁ = beaten n l
 
-  pub round-moves : (s′ : State) → l .anew ≡ true → Round i s s′
-      → (l′ : Line) × (find i (s′ .lines) ≡ some l′) × (s′ .flow .last ≡ s .flow .last) × (l′ .server .cap ≡ l .server .cap) × (l′ .anew ≡ l .anew) × Moved (s .flow .last) l l′
-  round-moves s′ new r =
-      subst (λ (y : State). (l′ : Line) × (find i (y .lines) ≡ some l′) × (y .flow .last ≡ s .flow .last) × (l′ .server .cap ≡ l .server .cap) × (l′ .anew ≡ l .anew) × Moved (s .flow .last) l l′) (r .ends)
-      (l₃, at₃ .found, at₃ .last, d .cap, d .anew, moved)
+  abbrev l₂ : Line
+  l₂ = replied n (beaten n l)
+
+  at₁ : At i l₁ n s₁
+  at₁ =
+      beside-at i l₁ n (r .before) (r .heard) (r .beside) (sound-runs s (r .heard) h (runs-heard i s s′ r))
+      (carried-beat i l n s (r .heard) h a (r .announced))
+
+  sound₁ : Sound s₁
+  sound₁ = sound-runs s s₁ h (runs-reply i s s′ r)
+
+  fine₁ : Fine (s₁ .flow) (s₁ .careful) (s₁ .net) l₁
+  fine₁ = sound₁ .lines i l₁ (at₁ .found)
+
+  known₁ : l₁ .model .known ≡ n
+  known₁ = omega (arith, h .lines i l (a .found) .known)
+
+  m : Moving i n (length (r .begun .net)) l₂ s₂
+  m =
+      moving-run i n (length (r .begun .net)) l₂ (r .events) (r .begun) (r .exchange) (sound-runs s (r .begun) h (runs-begun i s s′ r))
+      (moving-start i n l₂ (r .begun)
+      (at-replied i l₁ n s₁ (r .begun) sound₁ at₁ (r .first)))
+
+  d : Drained l₂ (m .line)
+  d =
+      moving-drained i n (length (r .begun .net)) l₂ s₂ m
+      (r .drained (m .line) (m .at .found)) (r .received (m .line) (m .at .found))
+
+  sound₂ : Sound s₂
+  sound₂ = sound-runs s s₂ h (runs-drained i s s′ r)
+
+  fine₂ : Fine (s₂ .flow) (s₂ .careful) (s₂ .net) (m .line)
+  fine₂ = sound₂ .lines i (m .line) (m .at .found)
+
+  known₂ : m .line .model .known ≡ n
+  known₂ = omega (arith, d .known, known₁, fine₂ .known, m .at .last)
+
+  gets : (k : ℕ) → base (l .model) + k ≡ suc n → (x : ℕ) → 1 ≤ x → x < base (l .model) + min k (min 256 (l .server .cap)) → has (m .line .model .settled) x ≡ true
+  gets k q x p w = below (decide (ltb x (base (l .model))))
     where
-      fine₀ : Fine (run (heartbeat i ∷ deliver 0 ∷ []) s .flow) (run (heartbeat i ∷ deliver 0 ∷ []) s .careful) (run (heartbeat i ∷ deliver 0 ∷ []) s .net) beaten
-      fine₀ = sound-beaten .lines i beaten (at-beaten .found)
+      later : (has (l .model .settled) x ≡ true) ⊎ (has (l .model .settled) x ≡ false) → base (l .model) ≤ x → has (m .line .model .settled) x ≡ true
+      later (inl e) g = d .old x e
+      later (inr e) g = d .new x (asked-for n l₁ (fine₁ .credit new) (fine₁ .above) known₁ k x q g w e)
 
-      known₀ : beaten .model .known ≡ s .flow .last
-      known₀ = omega (arith, h .lines i l found .known)
+      below : (ltb x (base (l .model)) ≡ true) ⊎ (ltb x (base (l .model)) ≡ false) → has (m .line .model .settled) x ≡ true
+      below (inl e) = d .old x (gap-all 1 (l .model .settled) x (h .lines i l (a .found) .rise) p (ltb-true x (base (l .model)) e))
+      below (inr e) = later (decide (has (l .model .settled) x)) (ltb-false x (base (l .model)) e)
 
-      m : Moving i (s .flow .last) (length (opened i s .net)) begun (run (r .events) (opened i s))
-      m = moving-run i (s .flow .last) (length (opened i s .net)) begun (r .events) (opened i s) (r .exchange) (moving-start i (s .flow .last) begun (opened i s) at-begun)
+  pub round-moves : (l′ : Line) × (find i (s′ .lines) ≡ some l′) × (s′ .flow .last ≡ n) × Same l l′ × Moved n l l′
+  round-moves = (replied n (m .line), at₃ .found, at₃ .last, record { cap = d .same .cap; anew = d .same .anew; reliable = d .same .reliable; since = d .same .since }, moved)
+    where
+      at₃ : At i (replied n (m .line)) n s′
+      at₃ = at-replied i (m .line) n s₂ s′ sound₂ (m .at) (r .second)
 
-      at₂ : At i (m .line) (s .flow .last) (run (r .events) (opened i s))
-      at₂ = m .at
+      ends : (ackedAfter (m .line .server .acked) (base (m .line .model)) ≡ base (m .line .model)) × (base (m .line .model) ≡ suc n → acknowledge n (base (m .line .model)) (asked (m .line .model)) (m .line .server) .unsent ≡ [])
+      ends = closes n (m .line) (fine₂ .credit (d .same .anew ∙ new)) known₂ (d .empty)
 
-      d : Drained begun (m .line)
-      d = moving-drained i (s .flow .last) (length (opened i s .net)) begun (run (r .events) (opened i s)) m (r .drained (m .line) (at₂ .found)) (r .received (m .line) (at₂ .found))
-
-      sound₂ : Sound (run (r .events) (opened i s))
-      sound₂ = sound-run (r .events) (opened i s) sound-begun
-
-      fine₂ : Fine (run (r .events) (opened i s) .flow) (run (r .events) (opened i s) .careful) (run (r .events) (opened i s) .net) (m .line)
-      fine₂ = sound₂ .lines i (m .line) (at₂ .found)
-
-      within₂ : base (m .line .model) ≤ suc (s .flow .last)
-      within₂ =
-          omega (arith, base-last (run (r .events) (opened i s) .flow) (run (r .events) (opened i s) .careful) (run (r .events) (opened i s) .net) (m .line) fine₂, at₂ .last)
-
-      known₂ : m .line .model .known ≡ s .flow .last
-      known₂ = omega (arith, d .known, known₀, fine₂ .known, at₂ .last)
-
-      l₃ : Line
-      l₃ = onServer (acknowledge (s .flow .last) (base (m .line .model)) (asked (m .line .model))) (m .line)
-
-      at₃ : At i (onServer (acknowledge (s .flow .last) (base (m .line .model)) (asked (m .line .model))) (m .line)) (s .flow .last) (closed i (run (r .events) (opened i s)))
-      at₃ = at-ack i (m .line) (s .flow .last) (run (r .events) (opened i s)) at₂ (sound₂ .held i (m .line) (at₂ .found)) within₂
-
-      ends : (ackedAfter (m .line .server .acked) (base (m .line .model)) ≡ base (m .line .model)) × (base (m .line .model) ≡ suc (s .flow .last) → acknowledge (s .flow .last) (base (m .line .model)) (asked (m .line .model)) (m .line .server) .unsent ≡ [])
-      ends = closes (s .flow .last) (m .line) (fine₂ .credit (d .anew ∙ new)) known₂ (d .empty)
-
-      gets : (k : ℕ) → base (l .model) + k ≡ suc (s .flow .last) → (x : ℕ) → 1 ≤ x → x < base (l .model) + min k (min 256 (l .server .cap)) → has (m .line .model .settled) x ≡ true
-      gets k q x p w = below (decide (ltb x (base (l .model))))
-        where
-          later : (has (l .model .settled) x ≡ true) ⊎ (has (l .model .settled) x ≡ false) → base (l .model) ≤ x → has (m .line .model .settled) x ≡ true
-          later (inl e) g = d .old x e
-          later (inr e) g = d .new x (asked-for (s .flow .last) beaten (fine₀ .credit new) (fine₀ .above) known₀ k x q g w e)
-
-          below : (ltb x (base (l .model)) ≡ true) ⊎ (ltb x (base (l .model)) ≡ false) → has (m .line .model .settled) x ≡ true
-          below (inl e) = d .old x (gap-all 1 (l .model .settled) x (h .lines i l found .rise) p (ltb-true x (base (l .model)) e))
-          below (inr e) = later (decide (has (l .model .settled) x)) (ltb-false x (base (l .model)) e)
-
-      moved : Moved (s .flow .last) l (onServer (acknowledge (s .flow .last) (base (m .line .model)) (asked (m .line .model))) (m .line))
+      moved : Moved n l (replied n (m .line))
       moved =
           record {
             on = λ k q. gap-past 1 (base (l .model) + min k (min 256 (l .server .cap))) (m .line .model .settled) (fine₂ .rise) (gets k q);
-            within = within₂;
+            within = omega (arith, base-last (s₂ .flow) (s₂ .careful) (s₂ .net) (m .line) fine₂, m .at .last);
             agree = ends .0;
             clear = ends .1;
           }

@@ -1,4 +1,4 @@
--- Several clean rounds, with anything but a write between them. Assumes nothing.
+-- Several clean rounds, with anything but a write between them; and what never changes, of a line that stays and of the writer. Assumes nothing.
 use Prim.Native.Nat.{ℕ, zero, suc, _+_, _-_, _*_, _≤_, _<_, min}
 use mathlib.Core.Path.{_≡_, refl, sym, ap, subst, _∙_}
 use mathlib.Core.Bool.{Bool, true, false, cond}
@@ -19,24 +19,24 @@ use Rattle.reader_list.specs.Readers.{isThere}
 use Rattle.writer_send_buffer.specs.Flow.{raised}
 use Rattle.other_end.specs.Model.{gotData, gotGap, gotBeat, base}
 use Rattle.other_end.specs.Calls.{Call, result, callRows}
-use Rattle.other_end.specs.System.{Line, Body, sample, gap, beat, ack, Msg, State, Event, match, depart, write, sentTo, evictTo, call, heartbeat, send, reply, deliver, find, upd, nth, onServer, onModel, withLines, withFlow, tried, matchRows, departRows, newcomer, joined, left, ackRows, acknowledges, called, sentRows, evictRows, evicts, arrive, arrives, sendFirst, sendTo, beatTo, replyFrom, step, run}
-use Rattle.other_end.specs.Rounds.{opened, Round, Quiet, Rounds}
+use Rattle.other_end.specs.System.{Line, Body, sample, gap, beat, ack, Msg, State, Event, match, depart, write, sentTo, evictTo, call, heartbeat, send, reply, deliver, find, upd, nth, onServer, onModel, withLines, withFlow, tried, matchRows, departRows, newcomer, joined, left, ackRows, acknowledges, called, writeRows, sentRows, evictRows, wrote, evicts, arrive, arrives, sendFirst, sendTo, beatTo, replyFrom, step, run, start}
+use Rattle.other_end.specs.Rounds.{Quiet, Rounds}
 use Rattle.other_end.specs.Demand3.{Moved, Reached, roundsFor}
 use Rattle.other_end.proofs.Found.{find-same, find-other, find-stays}
 use Rattle.other_end.proofs.Calls.{done-clear, both-false, call-cap}
 use Rattle.other_end.proofs.Fine.{Sane, base-last, settle-base}
 use Rattle.other_end.proofs.Sound.{Sound}
 use Rattle.other_end.proofs.Runs.{sound-step, sound-run}
-use Rattle.other_end.proofs.Round.{round-moves}
+use Rattle.other_end.proofs.Exchange.{Same, same, same-on}
+use Rattle.other_end.proofs.Round.{Runs, runs-on, sound-runs, runs-round, round-moves}
 
--- what the line l may become while nothing is written: it keeps its cap, and knows no less
+-- what the line l may become while nothing is written: it is the same, and knows no less
 record Later (l l′ : Line) : Type 0 where
-  cap : l′ .server .cap ≡ l .server .cap
-  anew : l′ .anew ≡ l .anew
+  same : Same l l′
   base : base (l .model) ≤ base (l′ .model)
 
-same : (l : Line) → Later l l
-same l = record { cap = refl; anew = refl; base = omega arith }
+unchanged : (l : Line) → Later l l
+unchanged l = record { same = same l; base = omega arith }
 
 -- the line i, which was l, in the state t that came of a state with the last number n
 abbrev Next : ℕ → Line → ℕ → State → Type 0
@@ -44,7 +44,7 @@ Next i l n t = (l′ : Line) × (find i (t .lines) ≡ some l′) × (t .flow .l
 
 module _ (i : ℕ) (l : Line) (s : State) (h : Sound s) (found : find i (s .lines) ≡ some l) where
   stays : Next i l (s .flow .last) s
-  stays = (l, found, refl, same l)
+  stays = (l, found, refl, unchanged l)
 
   next-tried : (r : Rows) (y : State) → (isDone (answerOf r) ≡ true → Next i l (s .flow .last) y) → Next i l (s .flow .last) (tried r s y)
   next-tried r y q = go (isDone (answerOf r)) refl
@@ -59,23 +59,23 @@ module _ (i : ℕ) (l : Line) (s : State) (h : Sound s) (found : find i (s .line
     where
       go : (eqb j i ≡ true) ⊎ (eqb j i ≡ false) → (l′ : Line) × (find i (upd j g (s .lines)) ≡ some l′) × Later l l′
       go (inl e) = (g l, subst (λ (k : ℕ). find i (upd k g (s .lines)) ≡ some (g l)) (sym (eqb-true j i e)) (find-same i g keeps (s .lines) l found), t)
-      go (inr e) = (l, find-other j i g keeps (eqb-false j i e) (s .lines) ∙ found, same l)
+      go (inr e) = (l, find-other j i g keeps (eqb-false j i e) (s .lines) ∙ found, unchanged l)
 
   next-match : (j : ℕ) (r : Bool) (m : ℕ) → isDone (answerOf (matchRows j m s)) ≡ true → Next i l (s .flow .last) (joined j r m s)
   next-match j r m d =
       let absent = both-false (eqb j 0) (isThere j (s .heads)) (done-clear (matchRows j m s) d .reader) .1 in
       let away : eqb i j ≡ false = ne-eqb i j (λ (q : i ≡ j). clash (isThere j (s .heads)) (subst (λ (k : ℕ). isThere k (s .heads) ≡ true) q (h .held i l found .there)) absent) in
-      (l, ap (λ (t : Bool). cond t (some (newcomer j r m s)) (find i (s .lines))) away ∙ found, refl, same l)
+      (l, ap (λ (t : Bool). cond t (some (newcomer j r m s)) (find i (s .lines))) away ∙ found, refl, unchanged l)
 
   next-call : (j : ℕ) (c : Call) (o : Option Line) → Next i l (s .flow .last) (called j c o s)
   next-call j c none = stays
   next-call j c (some x) =
       next-tried (callRows (s .flow .last) c (x .server)) (withLines (upd j (onServer (result c)) (s .lines)) s)
-      (λ d. let w = next-upd j (onServer (result c)) (λ y. refl) (record { cap = call-cap c (l .server); anew = refl; base = omega arith }) in (w .0, w .1, refl, w .2))
+      (λ d. let w = next-upd j (onServer (result c)) (λ y. refl) (record { same = record { cap = call-cap c (l .server); anew = refl; reliable = refl; since = refl }; base = omega arith }) in (w .0, w .1, refl, w .2))
 
   next-send : (j : ℕ) (u : List ℕ) → Next i l (s .flow .last) (sendFirst j u s)
   next-send j [] = stays
-  next-send j (k ∷ ks) = let w = next-upd j (onServer (markedSent k)) (λ y. refl) (record { cap = refl; anew = refl; base = omega arith }) in (w .0, w .1, refl, w .2)
+  next-send j (k ∷ ks) = let w = next-upd j (onServer (markedSent k)) (λ y. refl) (record { same = record { cap = refl; anew = refl; reliable = refl; since = refl }; base = omega arith }) in (w .0, w .1, refl, w .2)
 
   next-sendTo : (j : ℕ) (o : Option Line) → Next i l (s .flow .last) (sendTo j o s)
   next-sendTo j none = stays
@@ -91,20 +91,20 @@ module _ (i : ℕ) (l : Line) (s : State) (h : Sound s) (found : find i (s .line
 
   next-arrive : (j : ℕ) (b : Body) → Sane (s .flow .last) b → Next i l (s .flow .last) (arrive j b s)
   next-arrive j (sample k) g =
-      let w = next-upd j (onModel (gotData k)) (λ y. refl) (record { cap = refl; anew = refl; base = settle-base (s .flow) (s .careful) (s .net) l (h .lines i l found) k (g .0) }) in (w .0, w .1, refl, w .2)
+      let w = next-upd j (onModel (gotData k)) (λ y. refl) (record { same = record { cap = refl; anew = refl; reliable = refl; since = refl }; base = settle-base (s .flow) (s .careful) (s .net) l (h .lines i l found) k (g .0) }) in (w .0, w .1, refl, w .2)
   next-arrive j (gap k) g =
-      let w = next-upd j (onModel (gotGap k)) (λ y. refl) (record { cap = refl; anew = refl; base = settle-base (s .flow) (s .careful) (s .net) l (h .lines i l found) k (g .0) }) in (w .0, w .1, refl, w .2)
-  next-arrive j (beat k) g = let w = next-upd j (onModel (gotBeat k)) (λ y. refl) (record { cap = refl; anew = refl; base = omega arith }) in (w .0, w .1, refl, w .2)
+      let w = next-upd j (onModel (gotGap k)) (λ y. refl) (record { same = record { cap = refl; anew = refl; reliable = refl; since = refl }; base = settle-base (s .flow) (s .careful) (s .net) l (h .lines i l found) k (g .0) }) in (w .0, w .1, refl, w .2)
+  next-arrive j (beat k) g = let w = next-upd j (onModel (gotBeat k)) (λ y. refl) (record { same = record { cap = refl; anew = refl; reliable = refl; since = refl }; base = omega arith }) in (w .0, w .1, refl, w .2)
   next-arrive j (ack z) g =
       next-tried (ackRows j z s) (acknowledges j z s)
-      (λ d. let w = next-upd j (onServer (acknowledge (s .flow .last) (z .base) (members z))) (λ y. refl) (record { cap = refl; anew = refl; base = omega arith }) in (w .0, w .1, refl, w .2))
+      (λ d. let w = next-upd j (onServer (acknowledge (s .flow .last) (z .base) (members z))) (λ y. refl) (record { same = record { cap = refl; anew = refl; reliable = refl; since = refl }; base = omega arith }) in (w .0, w .1, refl, w .2))
 
   next-arrives : (k : ℕ) (o : Option Msg) → nth (s .net) k ≡ o → Next i l (s .flow .last) (arrives o s)
   next-arrives k none e = stays
   next-arrives k (some m) e = next-arrive (m .line) (m .body) (h .sane k m e)
 
   next-depart : (j : ℕ) → (j ≡ i → ⊥) → Next i l (s .flow .last) (step (depart j) s)
-  next-depart j q = next-tried (departRows j s) (left j s) (λ d. (l, find-stays j i q (s .lines) ∙ found, refl, same l))
+  next-depart j q = next-tried (departRows j s) (left j s) (λ d. (l, find-stays j i q (s .lines) ∙ found, refl, unchanged l))
 
   quiet-step : (e : Event) (es : List Event) → Quiet i (e ∷ es) → Next i l (s .flow .last) (step e s) × Quiet i es
   quiet-step (match j r m) es q = (next-tried (matchRows j m s) (joined j r m s) (next-match j r m), q)
@@ -119,7 +119,7 @@ module _ (i : ℕ) (l : Line) (s : State) (h : Sound s) (found : find i (s .line
   quiet-step (deliver k) es q = (next-arrives k (nth (s .net) k) refl, q)
 
 later-on : (l x y : Line) → Later l x → Later x y → Later l y
-later-on l x y p q = record { cap = q .cap ∙ p .cap; anew = q .anew ∙ p .anew; base = omega (arith, p .base, q .base) }
+later-on l x y p q = record { same = same-on l x y (p .same) (q .same); base = omega (arith, p .base, q .base) }
 
 quiet-run : (i : ℕ) (es : List Event) (l : Line) (s : State) → Quiet i es → Sound s → find i (s .lines) ≡ some l → Next i l (s .flow .last) (run es s)
 quiet-run i [] l s q h f = stays i l s h f
@@ -128,23 +128,78 @@ quiet-run i (e ∷ es) l s q h f =
     let v = quiet-run i es (w .0 .0) (step e s) (w .1) (sound-step s h e) (w .0 .1) in
     (v .0, v .1, v .2 ∙ w .0 .2, later-on l (w .0 .0) (v .0) (w .0 .3) (v .3))
 
--- a round is a run
-run-both : (xs ys : List Event) (s : State) → run (xs ++ ys) s ≡ run ys (run xs s)
-run-both [] ys s = refl
-run-both (x ∷ xs) ys s = run-both xs ys (step x s)
+-- SEVERAL ROUNDS ARE A RUN
 
-pub reached-run : (s : State) (es : List Event) → Reached s → Reached (run es s)
-reached-run s es r =
-    record { kind = r .kind; limits = r .limits; slots = r .slots; allowed = r .allowed; some = r .some; few = r .few; events = r .events ++ es; comes = run-both (r .events) es _ ∙ ap (run es) (r .comes) }
+pub rounds-run : (i r : ℕ) (s s′ : State) → Rounds i r s s′ → Runs s s′
+rounds-run i zero s s′ d = ([], d)
+rounds-run i (suc r) s s′ d =
+    runs-on s (d .2) s′ (runs-on s (run (d .0) s) (d .2) (d .0, refl) (runs-round i (run (d .0) s) (d .2) (d .3))) (rounds-run i r (d .2) s′ (d .4))
 
-pub reached-round : (i : ℕ) (s s′ : State) → Reached s → Round i s s′ → Reached s′
-reached-round i s s′ r d =
-    subst Reached (d .ends)
-    (reached-run (run (d .events) (opened i s)) (reply i ∷ deliver 0 ∷ []) (reached-run (opened i s) (d .events) (reached-run s (heartbeat i ∷ deliver 0 ∷ reply i ∷ deliver 0 ∷ []) r)))
+pub reached-runs : (s t : State) → Reached s → Runs s t → Reached t
+reached-runs s t r p =
+    let w = runs-on (start (r .kind) (r .limits) (r .slots)) s t (r .events, r .comes) p in
+    record { kind = r .kind; limits = r .limits; slots = r .slots; allowed = r .allowed; some = r .some; few = r .few; events = w .0; comes = w .1 }
 
-pub sound-round : (i : ℕ) (s s′ : State) → Sound s → Round i s s′ → Sound s′
-sound-round i s s′ h d =
-    subst Sound (d .ends) (sound-run (reply i ∷ deliver 0 ∷ []) (run (d .events) (opened i s)) (sound-run (d .events) (opened i s) (sound-run (heartbeat i ∷ deliver 0 ∷ reply i ∷ deliver 0 ∷ []) s h)))
+-- THE WRITER'S KIND is what it was made with
+
+module _ (s : State) where
+  kind-tried : (r : Rows) (y : State) → y .flow .kind ≡ s .flow .kind → tried r s y .flow .kind ≡ s .flow .kind
+  kind-tried r y e = go (isDone (answerOf r))
+    where
+      go : (t : Bool) → cond t y s .flow .kind ≡ s .flow .kind
+      go true = e
+      go false = refl
+
+  kind-call : (j : ℕ) (c : Call) (o : Option Line) → called j c o s .flow .kind ≡ s .flow .kind
+  kind-call j c none = refl
+  kind-call j c (some x) = kind-tried (callRows (s .flow .last) c (x .server)) (withLines (upd j (onServer (result c)) (s .lines)) s) refl
+
+  kind-beat : (j : ℕ) (o : Option Line) → beatTo j o s .flow .kind ≡ s .flow .kind
+  kind-beat j none = refl
+  kind-beat j (some x) = refl
+
+  kind-reply : (j : ℕ) (o : Option Line) → replyFrom j o s .flow .kind ≡ s .flow .kind
+  kind-reply j none = refl
+  kind-reply j (some x) = refl
+
+  kind-first : (j : ℕ) (u : List ℕ) → sendFirst j u s .flow .kind ≡ s .flow .kind
+  kind-first j [] = refl
+  kind-first j (m ∷ ms) = refl
+
+  kind-send : (j : ℕ) (o : Option Line) → sendTo j o s .flow .kind ≡ s .flow .kind
+  kind-send j none = refl
+  kind-send j (some x) = kind-first j (x .server .unsent)
+
+  kind-arrive : (j : ℕ) (b : Body) → arrive j b s .flow .kind ≡ s .flow .kind
+  kind-arrive j (sample k) = refl
+  kind-arrive j (gap k) = refl
+  kind-arrive j (beat k) = refl
+  kind-arrive j (ack z) = kind-tried (ackRows j z s) (acknowledges j z s) refl
+
+  kind-arrives : (o : Option Msg) → arrives o s .flow .kind ≡ s .flow .kind
+  kind-arrives none = refl
+  kind-arrives (some m) = kind-arrive (m .line) (m .body)
+
+  kind-step : (e : Event) → step e s .flow .kind ≡ s .flow .kind
+  kind-step (match j r m) = kind-tried (matchRows j m s) (joined j r m s) refl
+  kind-step (depart j) = kind-tried (departRows j s) (left j s) refl
+  kind-step (write len opted) = kind-tried (writeRows len opted s) (wrote opted s) refl
+  kind-step (sentTo k) = kind-tried (sentRows k s) (withFlow (raised (rankOf k) (s .flow)) s) refl
+  kind-step (evictTo k) = kind-tried (evictRows k s) (evicts (rankOf k) s) refl
+  kind-step (call j c) = kind-call j c (find j (s .lines))
+  kind-step (heartbeat j) = kind-beat j (find j (s .lines))
+  kind-step (send j) = kind-send j (find j (s .lines))
+  kind-step (reply j) = kind-reply j (find j (s .lines))
+  kind-step (deliver k) = kind-arrives (nth (s .net) k)
+
+kind-run : (es : List Event) (s : State) → run es s .flow .kind ≡ s .flow .kind
+kind-run [] s = refl
+kind-run (e ∷ es) s = kind-run es (step e s) ∙ kind-step s e
+
+pub kind-runs : (s t : State) → Runs s t → t .flow .kind ≡ s .flow .kind
+kind-runs s t r = ap (λ (y : State). y .flow .kind) (sym (r .1)) ∙ kind-run (r .0) s
+
+-- SO MANY ROUNDS LEVEL A LINE
 
 -- both ends hold the same next number, and nothing is unsent if that is past the last
 abbrev pub Agrees : ℕ → Line → Type 0
@@ -154,9 +209,8 @@ Agrees n l = (l .server .acked ≡ base (l .model)) × (base (l .model) ≡ suc 
 pub record Levelled (i r : ℕ) (l : Line) (n : ℕ) (s′ : State) : Type 0 where
   pub line : Line
   pub found : find i (s′ .lines) ≡ some line
-  pub anew : line .anew ≡ l .anew
+  pub same : Same l line
   pub last : s′ .flow .last ≡ n
-  pub reached : Reached s′
   pub agrees : (r ≡ 0 → Agrees n l) → Agrees n line
   pub on : (e : ℕ) → e ≤ suc n → e ≤ base (l .model) + r * min 256 (l .server .cap) → e ≤ base (line .model)
   pub within : base (line .model) ≤ suc n
@@ -166,14 +220,13 @@ reach : (e b q m k c p t : ℕ) → q + min k c ≤ m → q + k ≡ t → b ≤ 
 reach e b q m k c p t u v w x y = omega arith
 
 -- one round more in front: l is q when the round begins, and m when it ends
-one-more : (i r n : ℕ) (l q m : Line) (s′ : State) → Later l q → base (q .model) ≤ suc n → m .server .cap ≡ q .server .cap → m .anew ≡ q .anew → Moved n q m → Levelled i r m n s′ → Levelled i (suc r) l n s′
-one-more i r n l q m s′ w top e new d v =
+one-more : (i r n : ℕ) (l q m : Line) (s′ : State) → Later l q → base (q .model) ≤ suc n → Same q m → Moved n q m → Levelled i r m n s′ → Levelled i (suc r) l n s′
+one-more i r n l q m s′ w top e d v =
     record {
       line = v .line;
       found = v .found;
-      anew = v .anew ∙ new ∙ w .anew;
+      same = same-on l m (v .line) (same-on l q m (w .same) e) (v .same);
       last = v .last;
-      reached = v .reached;
       agrees = λ g. v .agrees (λ e. (d .agree, d .clear));
       on = λ x a b. v .on x a (near x a b);
       within = v .within;
@@ -182,34 +235,31 @@ one-more i r n l q m s′ w top e new d v =
     near : (x : ℕ) → x ≤ suc n → x ≤ base (l .model) + suc r * min 256 (l .server .cap) → x ≤ base (m .model) + r * min 256 (m .server .cap)
     near x a b =
         let k : base (q .model) + (suc n - base (q .model)) ≡ suc n = omega (arith, top) in
-        let o = subst (λ (c : ℕ). base (q .model) + min (suc n - base (q .model)) (min 256 c) ≤ base (m .model)) (w .cap) (d .on (suc n - base (q .model)) k) in
-        subst (λ (c : ℕ). x ≤ base (m .model) + r * min 256 c) (sym (e ∙ w .cap))
+        let o = subst (λ (c : ℕ). base (q .model) + min (suc n - base (q .model)) (min 256 c) ≤ base (m .model)) (w .same .cap) (d .on (suc n - base (q .model)) k) in
+        subst (λ (c : ℕ). x ≤ base (m .model) + r * min 256 c) (sym (e .cap ∙ w .same .cap))
         (reach x (base (l .model)) (base (q .model)) (base (m .model)) (suc n - base (q .model)) (min 256 (l .server .cap)) (r * min 256 (l .server .cap)) (suc n)
         o k (w .base) a (subst (λ (c : ℕ). x ≤ base (l .model) + c) (suc-mul r (min 256 (l .server .cap))) b))
 
-pub levelled : (i r : ℕ) (l : Line) (s s′ : State) → Reached s → Sound s → l .anew ≡ true → find i (s .lines) ≡ some l → Rounds i r s s′ → Levelled i r l (s .flow .last) s′
-levelled i zero l s s′ re h a f d =
+pub levelled : (i r : ℕ) (l : Line) (s s′ : State) → Sound s → l .anew ≡ true → find i (s .lines) ≡ some l → Rounds i r s s′ → Levelled i r l (s .flow .last) s′
+levelled i zero l s s′ h a f d =
     subst (Levelled i zero l (s .flow .last)) d
     (record {
       line = l;
       found = f;
-      anew = refl;
+      same = same l;
       last = refl;
-      reached = re;
       agrees = λ g. g refl;
       on = λ x a b. let z : 0 * min 256 (l .server .cap) ≡ 0 = zero-mul (min 256 (l .server .cap)) in omega (arith, b, z);
       within = base-last (s .flow) (s .careful) (s .net) l (h .lines i l f);
     })
-levelled i (suc r) l s s′ re h a f d =
+levelled i (suc r) l s s′ h a f d =
     let es = d .0 in
     let q = quiet-run i es l s (d .1) h f in
     let hq = sound-run es s h in
-    let m = round-moves i (q .0) (run es s) hq (q .1) (d .2) (q .3 .anew ∙ a) (d .3) in
-    let v =
-    levelled i r (m .0) (d .2) s′ (reached-round i (run es s) (d .2) (reached-run s es re) (d .3)) (sound-round i (run es s) (d .2) hq (d .3)) (m .4 ∙ q .3 .anew ∙ a) (m .1) (d .4) in
-    let e : d .2 .flow .last ≡ s .flow .last = m .2 ∙ q .2 in
+    let m = round-moves i (q .0) (s .flow .last) (run es s) (d .2) hq (record { found = q .1; last = q .2 }) (q .3 .same .anew ∙ a) (d .3) in
+    let v = levelled i r (m .0) (d .2) s′ (sound-runs (run es s) (d .2) hq (runs-round i (run es s) (d .2) (d .3))) (m .3 .anew ∙ q .3 .same .anew ∙ a) (m .1) (d .4) in
     let top : base (q .0 .model) ≤ suc (s .flow .last) = omega (arith, base-last (run es s .flow) (run es s .careful) (run es s .net) (q .0) (hq .lines i (q .0) (q .1)), q .2) in
-    one-more i r (s .flow .last) l (q .0) (m .0) s′ (q .3) top (m .3) (m .4) (subst (λ (n : ℕ). Moved n (q .0) (m .0)) (q .2) (m .5)) (subst (λ (n : ℕ). Levelled i r (m .0) n s′) e v)
+    one-more i r (s .flow .last) l (q .0) (m .0) s′ (q .3) top (m .3) (m .4) (subst (λ (n : ℕ). Levelled i r (m .0) n s′) (m .2) v)
 
 -- so many rounds are enough
 pub enough : (b n c r t : ℕ) → 1 ≤ c → b + n ≡ t → roundsFor n c ≤ r → t ≤ b + r * c

@@ -47,6 +47,10 @@ HasData l n = has (l .model .samples) n ≡ true
 abbrev pub HasSettled : Line → ℕ → Type 0
 HasSettled l n = has (l .model .settled) n ≡ true
 
+-- l, kept in s, is l′ in s′ and is still kept, unless an eviction went past the frontier meanwhile; and what it has below its base came as data
+abbrev pub StaysKept : State → State → ℕ → Line → Line → Type 0
+StaysKept s s′ i l l′ = Kept s i l → s′ .careful ≡ true → Kept s′ i l′ × ((n : ℕ) → 1 ≤ n → n < base (l′ .model) → HasData l′ n)
+
 -- what a clean round makes of the line l, where `last` is the last number written
 pub record Moved (last : ℕ) (l l′ : Line) : Type 0 where
   pub on : (n : ℕ) → base (l .model) + n ≡ suc last → base (l .model) + min n (min 256 (l .server .cap)) ≤ base (l′ .model)
@@ -67,18 +71,20 @@ pub record Demand3 : Type 0 where
   -- 2. EVICTION: no number that is no longer retained is missing at a kept line, and while it is there no write trims
   pub evicted : (s : State) (i : ℕ) (l : Line) → Kept s i l → (n : ℕ) → 1 ≤ n → n < s .flow .first → HasData l n
   pub untrimmed : (s : State) (i : ℕ) (l : Line) → Kept s i l → (opted : Bool) → trims (s .flow) opted ≡ false
-  -- 3. A CLEAN ROUND moves any line on, in whatever order its numbers are sent and received; one by one is such an order
+  -- 3. A CLEAN ROUND moves any line on, in whatever order its numbers are sent and received, and whatever else but a write goes on beside it; one by one is
+  -- such an order. A kept line stays kept, so that what it gained came as data
   pub round : (s s′ : State) (i : ℕ) (l : Line) → Present s i l → Round i s s′
-      → (l′ : Line) × Present s′ i l′ × (s′ .flow .last ≡ s .flow .last) × (l′ .server .cap ≡ l .server .cap) × Moved (s .flow .last) l l′
+      → (l′ : Line) × Present s′ i l′ × (s′ .flow .last ≡ s .flow .last) × (l′ .server .cap ≡ l .server .cap) × Moved (s .flow .last) l l′ × StaysKept s s′ i l l′
   pub one-by-one : (s : State) (i : ℕ) (l : Line) → Present s i l → Round i s (cleanRound i s)
   -- 4. BEYOND THE DEMAND: any line, a late one too, is credited only with what it received or was told as a gap
   pub told : (s : State) (i : ℕ) (l : Line) → Present s i l → (n : ℕ) → 1 ≤ n → n < l .server .acked → HasSettled l n
   -- a line that is n behind is level after at most n / min(256, M) clean rounds, rounded up, whatever else but a write happens before and between them;
-  -- and after every one of them both ends hold the same next number
+  -- after every one of them both ends hold the same next number; and a kept line stays kept
   pub level : (s s′ : State) (i r : ℕ) (l : Line) → Present s i l → Rounds i r s s′
       → (l′ : Line) × Present s′ i l′ × (s′ .flow .last ≡ s .flow .last)
       × ((n : ℕ) → base (l .model) + n ≡ suc (s .flow .last) → roundsFor n (min 256 (l .server .cap)) ≤ r → base (l′ .model) ≡ suc (s .flow .last))
       × (1 ≤ r → (l′ .server .acked ≡ base (l′ .model)) × (base (l′ .model) ≡ suc (s .flow .last) → l′ .server .unsent ≡ []))
+      × StaysKept s s′ i l l′
   -- and such rounds can always be had, as many as one likes
   pub always : (s : State) (i : ℕ) (l : Line) → Present s i l → (r : ℕ) → Rounds i r s (cleanRounds i r s)
   -- no call of the system is refused with 1

@@ -1,13 +1,85 @@
 -- A clean round of a line, "with nothing else delivered and no write: heartbeat, ACKNACK taken, unsent numbers sent and received until none is left,
--- second ACKNACK taken"; and several of them. Assumes nothing.
+-- second ACKNACK taken"; and several of them. "Nothing else delivered" is read for the line: nothing else to it or from it. Whatever else goes on beside
+-- it is free but a write, so that the rounds of several lines may interleave, each seeing only its own deliveries. Assumes nothing.
 use Prim.Native.Nat.{ℕ, zero, suc, _+_, _<_}
 use mathlib.Core.Path.{_≡_}
 use mathlib.Core.Bool.{true}
+use mathlib.Core.Logic.{_⊎_}
 use mathlib.Core.List.{List, [], _∷_}
 use mathlib.Core.Option.{Option, none, some}
 use lib.ListN.{length}
 use Rattle.sets.specs.Sets.{has}
 use Rattle.other_end.specs.System.{Line, Body, sample, gap, beat, ack, Msg, State, Event, match, depart, write, sentTo, evictTo, call, heartbeat, send, reply, deliver, find, nth, run, step}
+
+-- BESIDE A LINE
+
+-- a message, if there is one, that is neither to the line i nor from it
+abbrev pub Elsewhere : ℕ → Option Msg → Type 0
+Elsewhere i none = Unit {0}
+Elsewhere i (some m) = m .line ≡ i → ⊥
+
+-- the event, in the state s, is beside the line i: no write; no departure, call, send or reply of i; and no delivery to i or from it. A heartbeat for i
+-- delivers nothing, and a match of i is refused while i is there
+abbrev pub Beside : ℕ → Event → State → Type 0
+Beside i (match j r m) s = Unit {0}
+Beside i (depart j) s = j ≡ i → ⊥
+Beside i (write len opted) s = ⊥
+Beside i (sentTo n) s = Unit {0}
+Beside i (evictTo n) s = Unit {0}
+Beside i (call j c) s = j ≡ i → ⊥
+Beside i (heartbeat j) s = Unit {0}
+Beside i (send j) s = j ≡ i → ⊥
+Beside i (reply j) s = j ≡ i → ⊥
+Beside i (deliver k) s = Elsewhere i (nth (s .net) k)
+
+-- each of the events, in the state that it comes in
+abbrev pub Each : (Event → State → Type 0) → List Event → State → Type 0
+Each P [] s = Unit {0}
+Each P (e ∷ es) s = P e s × Each P es (step e s)
+
+-- THE ROUND
+
+-- the event e puts a message into the network, which arrives after events beside the line i. `deliver` counts from the newest message: those put before
+-- e are as many as there were, and behind it
+pub record Carried (i : ℕ) (e : Event) (s s′ : State) : Type 0 where
+  pub meanwhile : List Event
+  pub beside : Each (Beside i) meanwhile (step e s)
+  pub place : ℕ
+  pub that : suc place + length (s .net) ≡ length (run meanwhile (step e s) .net)
+  pub ends : step (deliver place) (run meanwhile (step e s)) ≡ s′
+
+-- between the two ACKNACKs the writer sends to the line i, and what is put into the network in that time (all but the `old` messages) arrives, in any
+-- order, any number of times, among events beside the line
+abbrev pub Allowed : ℕ → ℕ → Event → State → Type 0
+Allowed i old e s = Beside i e s ⊎ ((e ≡ send i) ⊎ ((k : ℕ) × (e ≡ deliver k) × (k + old < length (s .net))))
+
+-- what a message says is settled at the line
+abbrev pub SettledAt : Line → Body → Type 0
+SettledAt l (sample n) = has (l .model .settled) n ≡ true
+SettledAt l (gap n) = has (l .model .settled) n ≡ true
+SettledAt l (beat k) = Unit {0}
+SettledAt l (ack z) = Unit {0}
+
+-- of all but the `old` messages, those to the line i, which is l, have been received
+abbrev pub Received : ℕ → ℕ → Line → State → Type 0
+Received i old l s = (k : ℕ) (m : Msg) → k + old < length (s .net) → nth (s .net) k ≡ some m → m .line ≡ i → SettledAt l (m .body)
+
+-- a clean round of the line i, from s to s′: the heartbeat arrives, and `heard` is the state then; events beside the line; an ACKNACK arrives, and `begun`
+-- is the state then; any such exchange after which nothing is unsent and all that was sent to the line in it was received; a second ACKNACK arrives
+pub record Round (i : ℕ) (s s′ : State) : Type 0 where
+  pub heard : State
+  pub announced : Carried i (heartbeat i) s heard
+  pub before : List Event
+  pub beside : Each (Beside i) before heard
+  pub begun : State
+  pub first : Carried i (reply i) (run before heard) begun
+  pub events : List Event
+  pub exchange : Each (Allowed i (length (begun .net))) events begun
+  pub drained : (l : Line) → find i (run events begun .lines) ≡ some l → l .server .unsent ≡ []
+  pub received : (l : Line) → find i (run events begun .lines) ≡ some l → Received i (length (begun .net)) l (run events begun)
+  pub second : Carried i (reply i) (run events begun) s′
+
+-- ONE BY ONE, with nothing beside it: a clean round that computes
 
 -- the heartbeat, and the first ACKNACK taken: the newest message is `deliver 0`'s
 abbrev pub opened : ℕ → State → State
@@ -17,7 +89,7 @@ opened i s = run (heartbeat i ∷ deliver 0 ∷ reply i ∷ deliver 0 ∷ []) s
 abbrev pub closed : ℕ → State → State
 closed i s = run (reply i ∷ deliver 0 ∷ []) s
 
--- ONE BY ONE: n unsent numbers, each sent and at once received
+-- n unsent numbers, each sent and at once received
 abbrev pub sends : ℕ → ℕ → List Event
 sends i zero = []
 sends i (suc n) = send i ∷ deliver 0 ∷ sends i n
@@ -31,42 +103,6 @@ drained i s = run (sends i (unsentOf (find i (s .lines)))) s
 
 abbrev pub cleanRound : ℕ → State → State
 cleanRound i s = closed i (drained i (opened i s))
-
--- IN ANY ORDER: between the two ACKNACKs the writer sends to the line i, and what is sent in this round (all but the `old` messages) arrives
-abbrev pub Allowed : ℕ → ℕ → Event → State → Type 0
-Allowed i old (send j) s = j ≡ i
-Allowed i old (deliver k) s = k + old < length (s .net)
-Allowed i old (match j r m) s = ⊥
-Allowed i old (depart j) s = ⊥
-Allowed i old (write len opted) s = ⊥
-Allowed i old (sentTo n) s = ⊥
-Allowed i old (evictTo n) s = ⊥
-Allowed i old (call j c) s = ⊥
-Allowed i old (heartbeat j) s = ⊥
-Allowed i old (reply j) s = ⊥
-
-abbrev pub Exchange : ℕ → ℕ → List Event → State → Type 0
-Exchange i old [] s = Unit {0}
-Exchange i old (e ∷ es) s = Allowed i old e s × Exchange i old es (step e s)
-
--- what a message says is settled at the line
-abbrev pub SettledAt : Line → Body → Type 0
-SettledAt l (sample n) = has (l .model .settled) n ≡ true
-SettledAt l (gap n) = has (l .model .settled) n ≡ true
-SettledAt l (beat k) = Unit {0}
-SettledAt l (ack z) = Unit {0}
-
--- all but the `old` messages have been received
-abbrev pub Received : ℕ → Line → State → Type 0
-Received old l s = (k : ℕ) (m : Msg) → k + old < length (s .net) → nth (s .net) k ≡ some m → SettledAt l (m .body)
-
--- a clean round of the line i, from s to s′: any such exchange after which nothing is unsent and all that was sent in it was received
-pub record Round (i : ℕ) (s s′ : State) : Type 0 where
-  pub events : List Event
-  pub exchange : Exchange i (length (opened i s .net)) events (opened i s)
-  pub drained : (l : Line) → find i (run events (opened i s) .lines) ≡ some l → l .server .unsent ≡ []
-  pub received : (l : Line) → find i (run events (opened i s) .lines) ≡ some l → Received (length (opened i s .net)) l (run events (opened i s))
-  pub ends : closed i (run events (opened i s)) ≡ s′
 
 -- SEVERAL ROUNDS, with anything before each but a write and the line's departure
 
