@@ -31,16 +31,10 @@ pub record At (i : ℕ) (l : Line) (n : ℕ) (s : State) : Type 0 where
   pub found : find i (s .lines) ≡ some l
   pub last : s .flow .last ≡ n
 
-abbrev pub NoAck : Body → Type 0
-NoAck (sample n) = Unit {0}
-NoAck (gap n) = Unit {0}
-NoAck (beat k) = Unit {0}
-NoAck (ack z) = ⊥
-
--- what an event beside the line l makes of a state with the network `net`: at most one message more, and no ACKNACK of the line
+-- what an event beside the line l makes of a state with the network `net`: at most one message more
 pub record Aside (i : ℕ) (l : Line) (n : ℕ) (net : List Msg) (t : State) : Type 0 where
   pub at : At i l n t
-  pub grows : (t .net ≡ net) ⊎ ((m : Msg) × (t .net ≡ m ∷ net) × (m .line ≡ i → NoAck (m .body)))
+  pub grows : (t .net ≡ net) ⊎ ((m : Msg) × (t .net ≡ m ∷ net))
 
 module _ (i : ℕ) (l : Line) (n : ℕ) (s : State) (h : Sound s) (a : At i l n s) where
   same : Aside i l n (s .net) s
@@ -79,17 +73,13 @@ module _ (i : ℕ) (l : Line) (n : ℕ) (s : State) (h : Sound s) (a : At i l n 
     aside-first : (u : List ℕ) → Aside i l n (s .net) (sendFirst j u s)
     aside-first [] = same
     aside-first (m ∷ ms) =
-        record { at = record { found = others (onServer (markedSent m)) (λ y. refl); last = a .last }; grows = inr (record { line = j; body = cond (retained m (s .flow)) (sample m) (gap m) }, refl, λ (q : j ≡ i). absurd (d q)) }
+        record { at = record { found = others (onServer (markedSent m)) (λ y. refl); last = a .last }; grows = inr (record { line = j; body = cond (retained m (s .flow)) (sample m) (gap m) }, refl) }
 
     aside-send : (o : Option Line) → Aside i l n (s .net) (sendTo j o s)
     aside-send none = same
     aside-send (some x) = aside-first (x .server .unsent)
 
-    aside-reply : (o : Option Line) → Aside i l n (s .net) (replyFrom j o s)
-    aside-reply none = same
-    aside-reply (some x) = record { at = record { found = a .found; last = a .last }; grows = inr (record { line = j; body = ack (ackNack (x .model)) }, refl, λ (q : j ≡ i). absurd (d q)) }
-
-    pub aside-arrive : (b : Body) → Aside i l n (s .net) (arrive j b s)
+    aside-arrive : (b : Body) → Aside i l n (s .net) (arrive j b s)
     aside-arrive (sample k) = aside-model (onModel (gotData k)) (λ y. refl)
     aside-arrive (gap k) = aside-model (onModel (gotGap k)) (λ y. refl)
     aside-arrive (beat k) = aside-model (onModel (gotBeat k)) (λ y. refl)
@@ -97,10 +87,17 @@ module _ (i : ℕ) (l : Line) (n : ℕ) (s : State) (h : Sound s) (a : At i l n 
         aside-tried (ackRows j z s) (acknowledges j z s)
         (λ ok. record { at = record { found = others (onServer (acknowledge (s .flow .last) (z .base) (members z))) (λ y. refl); last = a .last }; grows = inl refl })
 
-  -- a heartbeat, of any line, only comes into the network
+  -- a heartbeat and an ACKNACK, of any line, only come into the network
+  aside-post : (j : ℕ) (b : Body) → Aside i l n (s .net) (post j b s)
+  aside-post j b = record { at = record { found = a .found; last = a .last }; grows = inr (record { line = j; body = b }, refl) }
+
   aside-beat : (j : ℕ) (o : Option Line) → Aside i l n (s .net) (beatTo j o s)
   aside-beat j none = same
-  aside-beat j (some x) = record { at = record { found = a .found; last = a .last }; grows = inr (record { line = j; body = beat (s .flow .last) }, refl, λ q. tt) }
+  aside-beat j (some x) = aside-post j (beat (s .flow .last))
+
+  aside-reply : (j : ℕ) (o : Option Line) → Aside i l n (s .net) (replyFrom j o s)
+  aside-reply j none = same
+  aside-reply j (some x) = aside-post j (ack (ackNack (x .model)))
 
   aside-arrives : (o : Option Msg) → Elsewhere i o → Aside i l n (s .net) (arrives o s)
   aside-arrives none d = same
@@ -115,7 +112,7 @@ module _ (i : ℕ) (l : Line) (n : ℕ) (s : State) (h : Sound s) (a : At i l n 
   aside (call j c) d = aside-call j d c (find j (s .lines))
   aside (heartbeat j) d = aside-beat j (find j (s .lines))
   aside (send j) d = aside-send j d (find j (s .lines))
-  aside (reply j) d = aside-reply j d (find j (s .lines))
+  aside (reply j) d = aside-reply j (find j (s .lines))
   aside (deliver k) d = aside-arrives (nth (s .net) k) d
 
 -- THE PLACE OF A MESSAGE: p messages are older than m
@@ -141,7 +138,7 @@ stands-more p m x net h = record { there = omega (arith, h .there); is = go }
 stands-aside : (i : ℕ) (l : Line) (n p : ℕ) (m : Msg) (net : List Msg) (t : State) → Aside i l n net t → Stands p m net → Stands p m (t .net)
 stands-aside i l n p m net t w h = go (w .grows)
   where
-    go : (t .net ≡ net) ⊎ ((x : Msg) × (t .net ≡ x ∷ net) × (x .line ≡ i → NoAck (x .body))) → Stands p m (t .net)
+    go : (t .net ≡ net) ⊎ ((x : Msg) × (t .net ≡ x ∷ net)) → Stands p m (t .net)
     go (inl e) = subst (Stands p m) (sym e) h
     go (inr e) = subst (Stands p m) (sym (e .1)) (stands-more p m (e .0) net h)
 

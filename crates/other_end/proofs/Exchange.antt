@@ -1,15 +1,15 @@
 -- What becomes of a line while a round goes on: at the heartbeat, at an ACKNACK, and between the two ACKNACKs, in whatever order numbers are sent and
 -- received, and whatever goes on beside it. Assumes nothing.
-use Prim.Native.Nat.{ℕ, zero, suc, _+_, _-_, _≤_, _<_}
+use Prim.Native.Nat.{ℕ, suc, _+_, _-_, _≤_, _<_}
 use mathlib.Core.Path.{_≡_, refl, sym, ap, subst, _∙_}
 use mathlib.Core.Bool.{Bool, true, false, not, cond, _||_, true≢false, false≢true}
 use mathlib.Core.Logic.{_⊎_, inl, inr}
 use mathlib.Core.List.{List, [], _∷_}
-use mathlib.Core.Option.{Option, none, some}
+use mathlib.Core.Option.{Option, some}
 use lib.Dec.{ltb, eqb}
 use lib.ListN.{length}
 use native.Mathlib.Omega.{arith}
-use borrow.Author.Tests.{eqb-true, eqb-false, ne-eqb, le-ltb}
+use borrow.Author.Tests.{eqb-true, ne-eqb, le-ltb}
 use Rattle.sets.specs.Sets.{has, insert, without}
 use Rattle.sets.proofs.Bools.{or-right, and-both, decide}
 use Rattle.sets.proofs.Has.{has-insert, has-without}
@@ -20,13 +20,13 @@ use Rattle.reader_list.specs.Readers.{isThere}
 use Rattle.reader_list.specs.Slots.{unknown}
 use Rattle.writer_send_buffer.specs.Flow.{retained}
 use Rattle.other_end.specs.Model.{Model, gotData, gotGap, gotBeat, base, bits, asked, ackNack}
-use Rattle.other_end.specs.System.{Line, Body, sample, gap, beat, ack, Msg, State, Event, match, depart, write, sentTo, evictTo, call, heartbeat, send, reply, deliver, find, upd, nth, onServer, onModel, withLines, post, tried, acknowledges, arrive, arrives, sendFirst, sendTo, beatTo, replyFrom, step, run}
-use Rattle.other_end.specs.Rounds.{Beside, Each, Carried, Allowed, SettledAt, Received}
+use Rattle.other_end.specs.System.{Line, Body, sample, gap, beat, ack, Msg, State, Event, heartbeat, send, reply, upd, nth, onServer, onModel, withLines, post, tried, acknowledges, arrive, arrives, sendFirst, sendTo, beatTo, replyFrom, step, run}
+use Rattle.other_end.specs.Rounds.{Each, Carried, Outward, Allowed, SettledAt, Received}
 use Rattle.other_end.proofs.Gaps.{asks}
-use Rattle.other_end.proofs.Found.{some-msg, find-same}
+use Rattle.other_end.proofs.Found.{find-same}
 use Rattle.other_end.proofs.Sound.{Sound}
 use Rattle.other_end.proofs.Runs.{sound-step}
-use Rattle.other_end.proofs.Beside.{At, NoAck, Aside, aside-arrive, aside, carried-at}
+use Rattle.other_end.proofs.Beside.{At, Aside, aside, carried-at}
 
 -- what a line is as long as it is there
 pub record Same (l l′ : Line) : Type 0 where
@@ -110,7 +110,7 @@ Tells x (ack z) = ⊥
 abbrev Posted : ℕ → ℕ → ℕ → List Msg → Type 0
 Posted i old x net = (k : ℕ) × (m : Msg) × (k + old < length net) × (nth net k ≡ some m) × (m .line ≡ i) × Tells x (m .body)
 
--- what the line l₁ has become: each number that was unsent is still so, or was posted; and no ACKNACK of the line was
+-- what the line l₁ has become: each number that was unsent is still so, or was posted
 pub record Moving (i n old : ℕ) (l₁ : Line) (s : State) : Type 0 where
   pub line : Line
   pub at : At i line n s
@@ -120,33 +120,22 @@ pub record Moving (i n old : ℕ) (l₁ : Line) (s : State) : Type 0 where
   pub known : l₁ .model .known ≤ line .model .known
   pub out : (x : ℕ) → has (l₁ .server .unsent) x ≡ true → (has (line .server .unsent) x ≡ true) ⊎ Posted i old x (s .net)
   pub long : old ≤ length (s .net)
-  pub mine : (k : ℕ) (m : Msg) → k + old < length (s .net) → nth (s .net) k ≡ some m → m .line ≡ i → NoAck (m .body)
 
 tells : (n x : ℕ) (t : Bool) → n ≡ x → Tells x (cond t (sample n) (gap n))
 tells n x true e = e
 tells n x false e = e
-
-no-ack : (n : ℕ) (t : Bool) → NoAck (cond t (sample n) (gap n))
-no-ack n true = tt
-no-ack n false = tt
 
 module _ (i n old : ℕ) (l₁ : Line) where
   -- a message more in front
   posted-more : (x : ℕ) (p : Msg) (net : List Msg) → Posted i old x net → Posted i old x (p ∷ net)
   posted-more x p net w = (suc (w .0), w .1, omega (arith, w .2), w .3, w .4, w .5)
 
-  mine-more : (net : List Msg) (p : Msg) → ((k : ℕ) (m : Msg) → k + old < length net → nth net k ≡ some m → m .line ≡ i → NoAck (m .body)) → (p .line ≡ i → NoAck (p .body))
-      → (k : ℕ) (m : Msg) → k + old < suc (length net) → nth (p ∷ net) k ≡ some m → m .line ≡ i → NoAck (m .body)
-  mine-more net p h w zero m q e = subst (λ (y : Msg). y .line ≡ i → NoAck (y .body)) (some-msg e) w
-  mine-more net p h w (suc k) m q e = h k m (omega arith) e
-
   -- the line stays as it is
   moving-aside : (s t : State) → (h : Moving i n old l₁ s) → Aside i (h .line) n (s .net) t → Moving i n old l₁ t
   moving-aside s t h w = go (w .grows)
     where
-      with-net : (net : List Msg) → t .net ≡ net → ((x : ℕ) → has (l₁ .server .unsent) x ≡ true → (has (h .line .server .unsent) x ≡ true) ⊎ Posted i old x net) → old ≤ length net
-          → ((k : ℕ) (m : Msg) → k + old < length net → nth net k ≡ some m → m .line ≡ i → NoAck (m .body)) → Moving i n old l₁ t
-      with-net net e out long mine =
+      with-net : (net : List Msg) → t .net ≡ net → ((x : ℕ) → has (l₁ .server .unsent) x ≡ true → (has (h .line .server .unsent) x ≡ true) ⊎ Posted i old x net) → old ≤ length net → Moving i n old l₁ t
+      with-net net e out long =
           record {
             line = h .line;
             at = w .at;
@@ -156,16 +145,15 @@ module _ (i n old : ℕ) (l₁ : Line) where
             known = h .known;
             out = subst (λ (v : List Msg). (x : ℕ) → has (l₁ .server .unsent) x ≡ true → (has (h .line .server .unsent) x ≡ true) ⊎ Posted i old x v) (sym e) out;
             long = subst (λ (v : List Msg). old ≤ length v) (sym e) long;
-            mine = subst (λ (v : List Msg). (k : ℕ) (m : Msg) → k + old < length v → nth v k ≡ some m → m .line ≡ i → NoAck (m .body)) (sym e) mine;
           }
 
       more : (x : ℕ) (p : Msg) → (has (h .line .server .unsent) x ≡ true) ⊎ Posted i old x (s .net) → (has (h .line .server .unsent) x ≡ true) ⊎ Posted i old x (p ∷ s .net)
       more x p (inl v) = inl v
       more x p (inr v) = inr (posted-more x p (s .net) v)
 
-      go : (t .net ≡ s .net) ⊎ ((m : Msg) × (t .net ≡ m ∷ s .net) × (m .line ≡ i → NoAck (m .body))) → Moving i n old l₁ t
-      go (inl e) = with-net (s .net) e (h .out) (h .long) (h .mine)
-      go (inr e) = with-net (e .0 ∷ s .net) (e .1) (λ x v. more x (e .0) (h .out x v)) (omega (arith, h .long)) (mine-more (s .net) (e .0) (h .mine) (e .2))
+      go : (t .net ≡ s .net) ⊎ ((m : Msg) × (t .net ≡ m ∷ s .net)) → Moving i n old l₁ t
+      go (inl e) = with-net (s .net) e (h .out) (h .long)
+      go (inr e) = with-net (e .0 ∷ s .net) (e .1) (λ x v. more x (e .0) (h .out x v)) (omega (arith, h .long))
 
   moving-send : (s : State) → Moving i n old l₁ s → Moving i n old l₁ (step (send i) s)
   moving-send s h = go (h .line .server .unsent) refl
@@ -183,7 +171,6 @@ module _ (i n old : ℕ) (l₁ : Line) where
             known = h .known;
             out = λ x w. sent x (h .out x w) (decide (eqb m x));
             long = omega (arith, h .long);
-            mine = mine-more (s .net) new (h .mine) (λ q. no-ack m (retained m (s .flow)));
           })
         where
           new : Msg
@@ -208,44 +195,31 @@ module _ (i n old : ℕ) (l₁ : Line) where
         known = omega (arith, h .known, kn (h .line .model));
         out = h .out;
         long = h .long;
-        mine = h .mine;
       }
 
   stays-in : (x y : ℕ) (u : List ℕ) → has u y ≡ true → has (insert x u) y ≡ true
   stays-in x y u w = has-insert x y u ∙ or-right (eqb x y) (has u y) w
 
-  moving-deliver : (s : State) (k : ℕ) → k + old < length (s .net) → Sound s → Moving i n old l₁ s → Moving i n old l₁ (step (deliver k) s)
-  moving-deliver s k q hs h = go (nth (s .net) k) refl
-    where
-      took : (b : Body) → NoAck b → Moving i n old l₁ (arrive i b s)
-      took (sample x) p = moving-learn s h (gotData x) (λ m y w. stays-in x y (m .settled) w) (λ m. omega arith)
-      took (gap x) p = moving-learn s h (gotGap x) (λ m y w. stays-in x y (m .settled) w) (λ m. omega arith)
-      took (beat x) p = moving-learn s h (gotBeat x) (λ m y w. w) (λ m. omega arith)
-      took (ack z) p = absurd p
+  moving-arrive : (b : Body) (s : State) → Outward b → Moving i n old l₁ s → Moving i n old l₁ (arrive i b s)
+  moving-arrive (sample x) s o h = moving-learn s h (gotData x) (λ m y w. stays-in x y (m .settled) w) (λ m. omega arith)
+  moving-arrive (gap x) s o h = moving-learn s h (gotGap x) (λ m y w. stays-in x y (m .settled) w) (λ m. omega arith)
+  moving-arrive (beat x) s o h = moving-learn s h (gotBeat x) (λ m y w. w) (λ m. omega arith)
+  moving-arrive (ack z) s o h = absurd o
 
-      -- to the line, or beside it
-      whose : (m : Msg) → nth (s .net) k ≡ some m → (eqb (m .line) i ≡ true) ⊎ (eqb (m .line) i ≡ false) → Moving i n old l₁ (arrive (m .line) (m .body) s)
-      whose m e (inl w) =
-          let own = eqb-true (m .line) i w in
-          subst (λ (j : ℕ). Moving i n old l₁ (arrive j (m .body) s)) (sym own) (took (m .body) (h .mine k m q e own))
-      whose m e (inr w) = moving-aside s (arrive (m .line) (m .body) s) h (aside-arrive i (h .line) n s hs (h .at) (m .line) (eqb-false (m .line) i w) (m .body))
-
-      go : (o : Option Msg) → nth (s .net) k ≡ o → Moving i n old l₁ (arrives o s)
-      go none e = h
-      go (some m) e = whose m e (decide (eqb (m .line) i))
-
-  moving-step : (e : Event) (s : State) → Allowed i old e s → Sound s → Moving i n old l₁ s → Moving i n old l₁ (step e s)
+  moving-step : (e : Event) (s : State) → Allowed i e s → Sound s → Moving i n old l₁ s → Moving i n old l₁ (step e s)
   moving-step e s (inl d) hs h = moving-aside s (step e s) h (aside i (h .line) n s hs (h .at) e d)
   moving-step e s (inr (inl d)) hs h = subst (λ (e : Event). Moving i n old l₁ (step e s)) (sym d) (moving-send s h)
-  moving-step e s (inr (inr d)) hs h = subst (λ (e : Event). Moving i n old l₁ (step e s)) (sym (d .1)) (moving-deliver s (d .0) (d .2) hs h)
+  moving-step e s (inr (inr d)) hs h =
+      let is : step e s ≡ arrive i (d .body) s = ap (λ (e : Event). step e s) (d .delivers) ∙ ap (λ (o : Option Msg). arrives o s) (d .that) in
+      subst (Moving i n old l₁) (sym is) (moving-arrive (d .body) s (d .outward) h)
 
-  pub moving-run : (es : List Event) (s : State) → Each (Allowed i old) es s → Sound s → Moving i n old l₁ s → Moving i n old l₁ (run es s)
+  pub moving-run : (es : List Event) (s : State) → Each (Allowed i) es s → Sound s → Moving i n old l₁ s → Moving i n old l₁ (run es s)
   moving-run [] s x hs h = h
   moving-run (e ∷ es) s x hs h = moving-run es (step e s) (x .1) (sound-step s hs e) (moving-step e s (x .0) hs h)
 
 pub moving-start : (i n : ℕ) (l₁ : Line) (s : State) → At i l₁ n s → Moving i n (length (s .net)) l₁ s
 moving-start i n l₁ s a =
-    record { line = l₁; at = a; acked = refl; same = same l₁; grow = λ x w. w; known = omega arith; out = λ x w. inl w; long = omega arith; mine = λ k m q e. absurd (omega arith) }
+    record { line = l₁; at = a; acked = refl; same = same l₁; grow = λ x w. w; known = omega arith; out = λ x w. inl w; long = omega arith }
 
 -- what the line l has become once all that was unsent was sent and received
 pub record Drained (l l′ : Line) : Type 0 where

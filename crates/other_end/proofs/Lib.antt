@@ -21,3 +21,4 @@ pub mod Sends
 pub mod AsCalled
 pub mod Demand3
 pub mod Needed
+pub mod Interleaved

@@ -17,7 +17,7 @@ use Rattle.rtps_reader_proxy.specs.Reader.{markedSent}
 use Rattle.writer_send_buffer.specs.Flow.{retained}
 use Rattle.other_end.specs.Model.{gotData, gotGap, ackNack}
 use Rattle.other_end.specs.System.{Line, Body, sample, gap, beat, ack, Msg, State, Event, heartbeat, send, reply, deliver, find, upd, nth, onServer, onModel, withLines, post, beatTo, replyFrom, step, run}
-use Rattle.other_end.specs.Rounds.{Each, Carried, Allowed, opened, sends, unsentOf, drained, cleanRound, SettledAt, Received, Round}
+use Rattle.other_end.specs.Rounds.{Each, Carried, Arrives, Allowed, opened, sends, unsentOf, drained, cleanRound, SettledAt, Received, Round}
 use Rattle.other_end.proofs.Found.{some-line, some-msg, find-same}
 use Rattle.other_end.proofs.Sound.{Sound}
 use Rattle.other_end.proofs.Runs.{sound-run}
@@ -38,10 +38,10 @@ record Waits (i n old : ℕ) (ms : List ℕ) (s : State) : Type 0 where
   long : old ≤ length (s .net)
   received : Received i old line s
 
-waits-on : (i n old m : ℕ) (ms : List ℕ) (s : State) → Sound s → Waits i n old (m ∷ ms) s → (old < length (step (send i) s .net)) × Waits i n old ms (step (deliver 0) (step (send i) s))
+waits-on : (i n old m : ℕ) (ms : List ℕ) (s : State) → Sound s → Waits i n old (m ∷ ms) s → Arrives i (deliver 0) (step (send i) s) × Waits i n old ms (step (deliver 0) (step (send i) s))
 waits-on i n old m ms s h w =
-    subst (λ (y : State). (old < length (y .net)) × Waits i n old ms (step (deliver 0) y)) (sym (send-is i (w .line) n s (w .at) m ms (w .unsent)))
-    (omega (arith, w .long), go (retained m (s .flow)))
+    subst (λ (y : State). Arrives i (deliver 0) y × Waits i n old ms (step (deliver 0) y)) (sym (send-is i (w .line) n s (w .at) m ms (w .unsent)))
+    (comes (retained m (s .flow)), go (retained m (s .flow)))
   where
     there : find i (upd i (onServer (markedSent m)) (s .lines)) ≡ some (onServer (markedSent m) (w .line))
     there = find-same i (onServer (markedSent m)) (λ x. refl) (s .lines) (w .line) (w .at .found)
@@ -65,6 +65,10 @@ waits-on i n old m ms s h w =
     all l′ e b g zero p q f o = subst (λ (y : Msg). SettledAt l′ (y .body)) (some-msg f) g
     all l′ e b g (suc k) p q f o = more l′ e (p .body) (w .received k p (omega arith) f o)
 
+    comes : (t : Bool) → Arrives i (deliver 0) (post i (cond t (sample m) (gap m)) (withLines (upd i (onServer (markedSent m)) (s .lines)) s))
+    comes true = record { place = 0; body = sample m; delivers = refl; that = refl; outward = tt }
+    comes false = record { place = 0; body = gap m; delivers = refl; that = refl; outward = tt }
+
     go : (t : Bool) → Waits i n old ms (step (deliver 0) (post i (cond t (sample m) (gap m)) (withLines (upd i (onServer (markedSent m)) (s .lines)) s)))
     go true =
         record {
@@ -83,12 +87,12 @@ waits-on i n old m ms s h w =
           received = all (onModel (gotGap m) (onServer (markedSent m) (w .line))) refl (gap m) own;
         }
 
-drains : (i n old : ℕ) (u : List ℕ) (s : State) → Sound s → Waits i n old u s → Each (Allowed i old) (sends i (length u)) s × Waits i n old [] (run (sends i (length u)) s)
+drains : (i n old : ℕ) (u : List ℕ) (s : State) → Sound s → Waits i n old u s → Each (Allowed i) (sends i (length u)) s × Waits i n old [] (run (sends i (length u)) s)
 drains i n old [] s h w = (tt, w)
 drains i n old (m ∷ ms) s h w =
     let o = waits-on i n old m ms s h w in
     let r = drains i n old ms (step (deliver 0) (step (send i) s)) (sound-run (send i ∷ deliver 0 ∷ []) s h) (o .1) in
-    ((inr (inl refl), (inr (inr (0, refl, omega (arith, o .0))), r .0)), r .1)
+    ((inr (inl refl), (inr (inr (o .0)), r .0)), r .1)
 
 -- the message that e puts into the network arrives at once
 at-once : (i : ℕ) (e : Event) (b : Body) (s : State) → step e s ≡ post i b s → Carried i e s (step (deliver 0) (step e s))
@@ -128,8 +132,8 @@ one-round i l s h found =
     at₂ : At i (replied (s .flow .last) (beaten (s .flow .last) l)) (s .flow .last) (opened i s)
     at₂ = at-replied i (beaten (s .flow .last) l) (s .flow .last) (run (heartbeat i ∷ deliver 0 ∷ []) s) (opened i s) (sound-run (heartbeat i ∷ deliver 0 ∷ []) s h) at₁ first
 
-    all : Each (Allowed i (length (opened i s .net))) (sends i (unsentOf (find i (opened i s .lines)))) (opened i s) × Waits i (s .flow .last) (length (opened i s .net)) [] (drained i (opened i s))
+    all : Each (Allowed i) (sends i (unsentOf (find i (opened i s .lines)))) (opened i s) × Waits i (s .flow .last) (length (opened i s .net)) [] (drained i (opened i s))
     all =
-        subst (λ (o : Option Line). Each (Allowed i (length (opened i s .net))) (sends i (unsentOf o)) (opened i s) × Waits i (s .flow .last) (length (opened i s .net)) [] (run (sends i (unsentOf o)) (opened i s))) (sym (at₂ .found))
+        subst (λ (o : Option Line). Each (Allowed i) (sends i (unsentOf o)) (opened i s) × Waits i (s .flow .last) (length (opened i s .net)) [] (run (sends i (unsentOf o)) (opened i s))) (sym (at₂ .found))
         (drains i (s .flow .last) (length (opened i s .net)) (l₂ .server .unsent) (opened i s) (sound-run (heartbeat i ∷ deliver 0 ∷ reply i ∷ deliver 0 ∷ []) s h)
         (record { line = l₂; at = at₂; unsent = refl; long = omega arith; received = λ k m q e o. absurd (omega arith) }))

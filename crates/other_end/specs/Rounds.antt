@@ -18,8 +18,8 @@ abbrev pub Elsewhere : ℕ → Option Msg → Type 0
 Elsewhere i none = Unit {0}
 Elsewhere i (some m) = m .line ≡ i → ⊥
 
--- the event, in the state s, is beside the line i: no write; no departure, call, send or reply of i; and no delivery to i or from it. A heartbeat for i
--- delivers nothing, and a match of i is refused while i is there
+-- the event, in the state s, is beside the line i: no write; no departure, call or send of i; and no delivery to i or from it. A heartbeat or an ACKNACK
+-- of i that isn't delivered is nothing to it, and a match of i is refused while i is there
 abbrev pub Beside : ℕ → Event → State → Type 0
 Beside i (match j r m) s = Unit {0}
 Beside i (depart j) s = j ≡ i → ⊥
@@ -29,7 +29,7 @@ Beside i (evictTo n) s = Unit {0}
 Beside i (call j c) s = j ≡ i → ⊥
 Beside i (heartbeat j) s = Unit {0}
 Beside i (send j) s = j ≡ i → ⊥
-Beside i (reply j) s = j ≡ i → ⊥
+Beside i (reply j) s = Unit {0}
 Beside i (deliver k) s = Elsewhere i (nth (s .net) k)
 
 -- each of the events, in the state that it comes in
@@ -48,10 +48,25 @@ pub record Carried (i : ℕ) (e : Event) (s s′ : State) : Type 0 where
   pub that : suc place + length (s .net) ≡ length (run meanwhile (step e s) .net)
   pub ends : step (deliver place) (run meanwhile (step e s)) ≡ s′
 
--- between the two ACKNACKs the writer sends to the line i, and what is put into the network in that time (all but the `old` messages) arrives, in any
--- order, any number of times, among events beside the line
-abbrev pub Allowed : ℕ → ℕ → Event → State → Type 0
-Allowed i old e s = Beside i e s ⊎ ((e ≡ send i) ⊎ ((k : ℕ) × (e ≡ deliver k) × (k + old < length (s .net))))
+-- a message is to its reader, not from it
+abbrev pub Outward : Body → Type 0
+Outward (sample n) = Unit {0}
+Outward (gap n) = Unit {0}
+Outward (beat k) = Unit {0}
+Outward (ack z) = ⊥
+
+-- the event delivers a message to the line i
+pub record Arrives (i : ℕ) (e : Event) (s : State) : Type 0 where
+  pub place : ℕ
+  pub body : Body
+  pub delivers : e ≡ deliver place
+  pub that : nth (s .net) place ≡ some (record { line = i; body = body })
+  pub outward : Outward body
+
+-- between the two ACKNACKs, among events beside the line i: the writer sends to it, and what is sent to it arrives, in any order, any number of times. What
+-- was sent to it before may arrive too, though document 01's round has no such delivery
+abbrev pub Allowed : ℕ → Event → State → Type 0
+Allowed i e s = Beside i e s ⊎ ((e ≡ send i) ⊎ Arrives i e s)
 
 -- what a message says is settled at the line
 abbrev pub SettledAt : Line → Body → Type 0
@@ -60,7 +75,7 @@ SettledAt l (gap n) = has (l .model .settled) n ≡ true
 SettledAt l (beat k) = Unit {0}
 SettledAt l (ack z) = Unit {0}
 
--- of all but the `old` messages, those to the line i, which is l, have been received
+-- of all messages but the `old` ones, those to the line i, which is l, have been received
 abbrev pub Received : ℕ → ℕ → Line → State → Type 0
 Received i old l s = (k : ℕ) (m : Msg) → k + old < length (s .net) → nth (s .net) k ≡ some m → m .line ≡ i → SettledAt l (m .body)
 
@@ -74,7 +89,7 @@ pub record Round (i : ℕ) (s s′ : State) : Type 0 where
   pub begun : State
   pub first : Carried i (reply i) (run before heard) begun
   pub events : List Event
-  pub exchange : Each (Allowed i (length (begun .net))) events begun
+  pub exchange : Each (Allowed i) events begun
   pub drained : (l : Line) → find i (run events begun .lines) ≡ some l → l .server .unsent ≡ []
   pub received : (l : Line) → find i (run events begun .lines) ≡ some l → Received i (length (begun .net)) l (run events begun)
   pub second : Carried i (reply i) (run events begun) s′
