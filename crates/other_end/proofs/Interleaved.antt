@@ -1,7 +1,7 @@
--- The clean rounds of two lines interleave: a computed run, all of which is a round of the one line, and a part of which is a round of the other.
--- Assumes nothing.
+-- The clean rounds of two lines may interleave: what the one does is beside the other; and a computed run, all of which is a round of the one line, and a
+-- part of which is a round of the other. Assumes nothing.
 use Prim.Native.Nat.{ℕ, zero, suc}
-use mathlib.Core.Path.{_≡_, refl, ap, subst, _∙_}
+use mathlib.Core.Path.{_≡_, refl, sym, ap, subst, _∙_}
 use mathlib.Core.Bool.{true, false}
 use mathlib.Core.Logic.{inl, inr}
 use mathlib.Core.List.{List, [], _∷_}
@@ -12,9 +12,25 @@ use Rattle.sets.specs.Sets.{has}
 use Rattle.numbers.specs.Number.{numberAt}
 use Rattle.number_sets.specs.Bits.{wordOf, wordsOf}
 use Rattle.other_end.specs.Model.{base}
-use Rattle.other_end.specs.System.{Line, sample, Msg, State, Event, match, write, sentTo, heartbeat, send, reply, deliver, find, run, start}
-use Rattle.other_end.specs.Rounds.{SettledAt, Received, Round}
+use Rattle.other_end.specs.System.{Line, Body, sample, Msg, State, Event, match, write, sentTo, heartbeat, send, reply, deliver, find, nth, run, start}
+use Rattle.other_end.specs.Rounds.{Elsewhere, Beside, SettledAt, Received, Round}
 use Rattle.other_end.proofs.Found.{some-line, some-msg}
+
+-- WHAT A ROUND OF ANOTHER LINE DOES is beside a line, so nothing of the one bars the other
+module _ (i j : ℕ) (d : j ≡ i → ⊥) (s : State) where
+  pub sends-beside : Beside i (send j) s
+  sends-beside = d
+
+  pub heartbeat-beside : Beside i (heartbeat j) s
+  heartbeat-beside = tt
+
+  pub reply-beside : Beside i (reply j) s
+  reply-beside = tt
+
+  pub delivery-beside : (k : ℕ) (b : Body) → nth (s .net) k ≡ some (record { line = j; body = b }) → Beside i (deliver k) s
+  delivery-beside k b e = subst (Elsewhere i) (sym e) d
+
+-- A RUN
 
 abbrev new : State
 new =

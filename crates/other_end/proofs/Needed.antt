@@ -165,6 +165,11 @@ three-swapped : view (find 1 (closed 1 (run (send 1 ∷ send 1 ∷ deliver 0 ∷
 unfolding wordOf wordsOf
 three-swapped = refl
 
+-- SOMETHING ELSE DELIVERED TO THE LINE: a 3 sent before the round arrives once the second ACKNACK is under way. The ends differ
+three-late : view (find 1 (run (reply 1 ∷ deliver 5 ∷ deliver 0 ∷ []) (drained 1 (opened 1 (run (send 1 ∷ send 1 ∷ []) three))) .lines)) ≡ 3 ∷ 4 ∷ 3 ∷ []
+unfolding wordOf wordsOf
+three-late = refl
+
 -- DEMAND 3 IS NOT EMPTY: a run that comes to a kept line with an acknowledged and evicted sample, an unacknowledged one, a gap and a requested fragment
 abbrev lived : List Event
 lived =
