@@ -27,7 +27,8 @@ use Rattle.other_end.proofs.AsCalled.{starts, as-called}
 use Rattle.other_end.proofs.Exchange.{Same}
 use Rattle.other_end.proofs.Round.{Runs, runs-round, round-moves}
 use Rattle.other_end.proofs.OneByOne.{one-round}
-use Rattle.other_end.proofs.Rounds.{rounds-run, reached-runs, kind-runs, levelled, enough}
+use Rattle.other_end.proofs.Rounds.{rounds-run, reached-runs, levelled, enough}
+use Rattle.other_end.proofs.Lasting.{kind-run}
 
 pub sound : (s : State) → Reached s → Sound s
 sound s r = subst Sound (r .comes) (sound-run (r .events) (start (r .kind) (r .limits) (r .slots)) (sound-start (r .kind) (r .limits) (r .slots) (r .allowed) (r .some) (r .few)))
@@ -61,16 +62,18 @@ module _ (s : State) (i : ℕ) (l : Line) (k : Kept s i l) where
   held : (n : ℕ) → 1 ≤ n → n < base (l .model) → HasData l n
   held n a q = subst (λ (u : List ℕ). has u n ≡ true) (kept .1) (gap-all 1 (l .model .settled) n (fine s i l (k .present) .rise) a q)
 
--- a line that is there after a run, the same as before
+-- a line that is there after a run, the same but for its record and what it received, is present, and kept if it was
 stays : (s : State) (i : ℕ) (l : Line) → Present s i l → (s′ : State) (l′ : Line) → Runs s s′ → find i (s′ .lines) ≡ some l′ → Same l l′ → Present s′ i l′ × StaysKept s s′ i l l′
 stays s i l p s′ l′ r f e = (there, λ k c. let w = still k c in (w, held s′ i l′ w))
   where
     there : Present s′ i l′
     there = record { reached = reached-runs s s′ (p .reached) r; there = f; anew = e .anew ∙ p .anew }
 
+    kind : s′ .flow .kind .reliable ≡ s .flow .kind .reliable
+    kind = ap (λ (y : State). y .flow .kind .reliable) (sym (r .1)) ∙ ap (λ (k : Kind). k .reliable) (kind-run (r .0) s)
+
     still : Kept s i l → s′ .careful ≡ true → Kept s′ i l′
-    still k c =
-        record { present = there; reliable = e .reliable ∙ k .reliable; early = e .since ∙ k .early; writer = ap (λ (k : Kind). k .reliable) (kind-runs s s′ r) ∙ k .writer; careful = c }
+    still k c = record { present = there; reliable = e .reliable ∙ k .reliable; early = e .since ∙ k .early; writer = kind ∙ k .writer; careful = c }
 
 module _ (s : State) (i : ℕ) (l : Line) (p : Present s i l) where
   level : (s′ : State) (r : ℕ) → Rounds i r s s′

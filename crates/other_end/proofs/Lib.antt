@@ -15,6 +15,7 @@ pub mod Exchange
 pub mod Round
 pub mod OneByOne
 pub mod Rounds
+pub mod Lasting
 pub mod Listed
 pub mod Acked
 pub mod Sends

@@ -1,4 +1,4 @@
--- Several clean rounds, with anything but a write between them; and what never changes, of a line that stays and of the writer. Assumes nothing.
+-- Several clean rounds, with anything but a write between them. Assumes nothing.
 use Prim.Native.Nat.{ℕ, zero, suc, _+_, _-_, _*_, _≤_, _<_, min}
 use mathlib.Core.Path.{_≡_, refl, sym, ap, subst, _∙_}
 use mathlib.Core.Bool.{Bool, true, false, cond}
@@ -19,7 +19,7 @@ use Rattle.reader_list.specs.Readers.{isThere}
 use Rattle.writer_send_buffer.specs.Flow.{raised}
 use Rattle.other_end.specs.Model.{gotData, gotGap, gotBeat, base}
 use Rattle.other_end.specs.Calls.{Call, result, callRows}
-use Rattle.other_end.specs.System.{Line, Body, sample, gap, beat, ack, Msg, State, Event, match, depart, write, sentTo, evictTo, call, heartbeat, send, reply, deliver, find, upd, nth, onServer, onModel, withLines, withFlow, tried, matchRows, departRows, newcomer, joined, left, ackRows, acknowledges, called, writeRows, sentRows, evictRows, wrote, evicts, arrive, arrives, sendFirst, sendTo, beatTo, replyFrom, step, run, start}
+use Rattle.other_end.specs.System.{Line, Body, sample, gap, beat, ack, Msg, State, Event, match, depart, write, sentTo, evictTo, call, heartbeat, send, reply, deliver, find, upd, nth, onServer, onModel, withLines, withFlow, tried, matchRows, departRows, newcomer, joined, left, ackRows, acknowledges, called, sentRows, evictRows, evicts, arrive, arrives, sendFirst, sendTo, beatTo, replyFrom, step, run, start}
 use Rattle.other_end.specs.Rounds.{Quiet, Rounds}
 use Rattle.other_end.specs.Demand3.{Moved, Reached, roundsFor}
 use Rattle.other_end.proofs.Found.{find-same, find-other, find-stays}
@@ -139,65 +139,6 @@ pub reached-runs : (s t : State) → Reached s → Runs s t → Reached t
 reached-runs s t r p =
     let w = runs-on (start (r .kind) (r .limits) (r .slots)) s t (r .events, r .comes) p in
     record { kind = r .kind; limits = r .limits; slots = r .slots; allowed = r .allowed; some = r .some; few = r .few; events = w .0; comes = w .1 }
-
--- THE WRITER'S KIND is what it was made with
-
-module _ (s : State) where
-  kind-tried : (r : Rows) (y : State) → y .flow .kind ≡ s .flow .kind → tried r s y .flow .kind ≡ s .flow .kind
-  kind-tried r y e = go (isDone (answerOf r))
-    where
-      go : (t : Bool) → cond t y s .flow .kind ≡ s .flow .kind
-      go true = e
-      go false = refl
-
-  kind-call : (j : ℕ) (c : Call) (o : Option Line) → called j c o s .flow .kind ≡ s .flow .kind
-  kind-call j c none = refl
-  kind-call j c (some x) = kind-tried (callRows (s .flow .last) c (x .server)) (withLines (upd j (onServer (result c)) (s .lines)) s) refl
-
-  kind-beat : (j : ℕ) (o : Option Line) → beatTo j o s .flow .kind ≡ s .flow .kind
-  kind-beat j none = refl
-  kind-beat j (some x) = refl
-
-  kind-reply : (j : ℕ) (o : Option Line) → replyFrom j o s .flow .kind ≡ s .flow .kind
-  kind-reply j none = refl
-  kind-reply j (some x) = refl
-
-  kind-first : (j : ℕ) (u : List ℕ) → sendFirst j u s .flow .kind ≡ s .flow .kind
-  kind-first j [] = refl
-  kind-first j (m ∷ ms) = refl
-
-  kind-send : (j : ℕ) (o : Option Line) → sendTo j o s .flow .kind ≡ s .flow .kind
-  kind-send j none = refl
-  kind-send j (some x) = kind-first j (x .server .unsent)
-
-  kind-arrive : (j : ℕ) (b : Body) → arrive j b s .flow .kind ≡ s .flow .kind
-  kind-arrive j (sample k) = refl
-  kind-arrive j (gap k) = refl
-  kind-arrive j (beat k) = refl
-  kind-arrive j (ack z) = kind-tried (ackRows j z s) (acknowledges j z s) refl
-
-  kind-arrives : (o : Option Msg) → arrives o s .flow .kind ≡ s .flow .kind
-  kind-arrives none = refl
-  kind-arrives (some m) = kind-arrive (m .line) (m .body)
-
-  kind-step : (e : Event) → step e s .flow .kind ≡ s .flow .kind
-  kind-step (match j r m) = kind-tried (matchRows j m s) (joined j r m s) refl
-  kind-step (depart j) = kind-tried (departRows j s) (left j s) refl
-  kind-step (write len opted) = kind-tried (writeRows len opted s) (wrote opted s) refl
-  kind-step (sentTo k) = kind-tried (sentRows k s) (withFlow (raised (rankOf k) (s .flow)) s) refl
-  kind-step (evictTo k) = kind-tried (evictRows k s) (evicts (rankOf k) s) refl
-  kind-step (call j c) = kind-call j c (find j (s .lines))
-  kind-step (heartbeat j) = kind-beat j (find j (s .lines))
-  kind-step (send j) = kind-send j (find j (s .lines))
-  kind-step (reply j) = kind-reply j (find j (s .lines))
-  kind-step (deliver k) = kind-arrives (nth (s .net) k)
-
-kind-run : (es : List Event) (s : State) → run es s .flow .kind ≡ s .flow .kind
-kind-run [] s = refl
-kind-run (e ∷ es) s = kind-run es (step e s) ∙ kind-step s e
-
-pub kind-runs : (s t : State) → Runs s t → t .flow .kind ≡ s .flow .kind
-kind-runs s t r = ap (λ (y : State). y .flow .kind) (sym (r .1)) ∙ kind-run (r .0) s
 
 -- SO MANY ROUNDS LEVEL A LINE
 

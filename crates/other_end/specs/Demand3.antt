@@ -71,8 +71,8 @@ pub record Demand3 : Type 0 where
   -- 2. EVICTION: no number that is no longer retained is missing at a kept line, and while it is there no write trims
   pub evicted : (s : State) (i : ℕ) (l : Line) → Kept s i l → (n : ℕ) → 1 ≤ n → n < s .flow .first → HasData l n
   pub untrimmed : (s : State) (i : ℕ) (l : Line) → Kept s i l → (opted : Bool) → trims (s .flow) opted ≡ false
-  -- 3. A CLEAN ROUND moves any line on, in whatever order its numbers are sent and received, and whatever else but a write goes on beside it; one by one is
-  -- such an order. A kept line stays kept, so that what it gained came as data
+  -- 3. A CLEAN ROUND moves any line on, in whatever order its numbers are sent and received, and whatever else but a write goes on beside it; one by one
+  -- is such an order. A kept line stays kept, so that what it gained came as data
   pub round : (s s′ : State) (i : ℕ) (l : Line) → Present s i l → Round i s s′
       → (l′ : Line) × Present s′ i l′ × (s′ .flow .last ≡ s .flow .last) × (l′ .server .cap ≡ l .server .cap) × Moved (s .flow .last) l l′ × StaysKept s s′ i l l′
   pub one-by-one : (s : State) (i : ℕ) (l : Line) → Present s i l → Round i s (cleanRound i s)

@@ -39,8 +39,8 @@ Each P (e ∷ es) s = P e s × Each P es (step e s)
 
 -- THE ROUND
 
--- the event e puts a message into the network, which arrives after events beside the line i. `deliver` counts from the newest message: those put before
--- e are as many as there were, and behind it
+-- the event e puts a message into the network, and that message arrives, after events beside the line i. It is known by its place from the oldest: the
+-- messages that were there before it. `deliver` counts from the newest
 pub record Carried (i : ℕ) (e : Event) (s s′ : State) : Type 0 where
   pub meanwhile : List Event
   pub beside : Each (Beside i) meanwhile (step e s)
@@ -63,8 +63,8 @@ pub record Arrives (i : ℕ) (e : Event) (s : State) : Type 0 where
   pub that : nth (s .net) place ≡ some (record { line = i; body = body })
   pub outward : Outward body
 
--- between the two ACKNACKs, among events beside the line i: the writer sends to it, and what is sent to it arrives, in any order, any number of times. What
--- was sent to it before may arrive too, though document 01's round has no such delivery
+-- between the two ACKNACKs, among events beside the line i: the writer sends to it, and what is sent to it arrives, in any order, any number of times.
+-- What was sent to it before may arrive too, though document 01's round has no such delivery
 abbrev pub Allowed : ℕ → Event → State → Type 0
 Allowed i e s = Beside i e s ⊎ ((e ≡ send i) ⊎ Arrives i e s)
 
