@@ -24,7 +24,7 @@ use Rattle.other_end.proofs.Fine.{Fine, base-pos}
 use Rattle.other_end.proofs.Sound.{Sound}
 use Rattle.other_end.proofs.Runs.{sound-run, sound-start}
 use Rattle.other_end.proofs.AsCalled.{starts, as-called}
-use Rattle.other_end.proofs.Exchange.{Same}
+use Rattle.other_end.proofs.Beside.{Same}
 use Rattle.other_end.proofs.Round.{Runs, runs-round, round-moves}
 use Rattle.other_end.proofs.OneByOne.{one-round}
 use Rattle.other_end.proofs.Rounds.{rounds-run, reached-runs, levelled, enough}

@@ -20,26 +20,15 @@ use Rattle.reader_list.specs.Readers.{isThere}
 use Rattle.reader_list.specs.Slots.{unknown}
 use Rattle.writer_send_buffer.specs.Flow.{retained}
 use Rattle.other_end.specs.Model.{Model, gotData, gotGap, gotBeat, base, bits, asked, ackNack}
-use Rattle.other_end.specs.System.{Line, Body, sample, gap, beat, ack, Msg, State, Event, heartbeat, send, reply, upd, nth, onServer, onModel, withLines, post, tried, acknowledges, arrive, arrives, sendFirst, sendTo, beatTo, replyFrom, step, run}
+use Rattle.other_end.specs.System.{Line, Body, sample, gap, beat, ack, Msg, State, Event, heartbeat, send, reply, upd, nth, onServer, onModel, withLines, post, tried, acknowledges, arrive, arrives, beatTo, replyFrom, step, run}
 use Rattle.other_end.specs.Rounds.{Each, Carried, Outward, Allowed, SettledAt, Received}
 use Rattle.other_end.proofs.Gaps.{asks}
 use Rattle.other_end.proofs.Found.{find-same}
+use Rattle.other_end.proofs.Records.{Above}
+use Rattle.other_end.proofs.Fine.{Fine, base-last}
 use Rattle.other_end.proofs.Sound.{Sound}
 use Rattle.other_end.proofs.Runs.{sound-step}
-use Rattle.other_end.proofs.Beside.{At, Aside, aside, carried-at}
-
--- what a line is as long as it is there
-pub record Same (l l′ : Line) : Type 0 where
-  pub cap : l′ .server .cap ≡ l .server .cap
-  pub anew : l′ .anew ≡ l .anew
-  pub reliable : l′ .reliable ≡ l .reliable
-  pub since : l′ .since ≡ l .since
-
-pub same : (l : Line) → Same l l
-same l = record { cap = refl; anew = refl; reliable = refl; since = refl }
-
-pub same-on : (l x y : Line) → Same l x → Same x y → Same l y
-same-on l x y p q = record { cap = q .cap ∙ p .cap; anew = q .anew ∙ p .anew; reliable = q .reliable ∙ p .reliable; since = q .since ∙ p .since }
+use Rattle.other_end.proofs.Beside.{Same, same, same-on, Sent, At, send-is, send-none, Grown, Aside, aside, Idle, carried-at}
 
 -- no row of an ACKNACK holds
 ack-done : (a b c : Bool) (x y : State) → a ≡ false → b ≡ false → c ≡ false → tried (rowsOf (row 3 a ∷ row 11 b ∷ row 12 c ∷ [])) x y ≡ y
@@ -79,24 +68,45 @@ module _ (i : ℕ) (l : Line) (n : ℕ) (s : State) (a : At i l n s) where
       near : isAhead (s .flow .last) (base (l .model)) ≡ false
       near = le-ltb (suc (s .flow .last)) (baseOf (base (l .model))) (omega (arith, a .last, q))
 
-  -- a send is the first unsent number's
-  pub send-is : (m : ℕ) (ms : List ℕ) → l .server .unsent ≡ m ∷ ms → step (send i) s ≡ post i (cond (retained m (s .flow)) (sample m) (gap m)) (withLines (upd i (onServer (markedSent m)) (s .lines)) s)
-  send-is m ms e = ap (λ (o : Option Line). sendTo i o s) (a .found) ∙ ap (λ (u : List ℕ). sendFirst i u s) e
+-- what the line is once it has heard the heartbeat, and what an ACKNACK makes of it
+abbrev pub beaten : ℕ → Line → Line
+beaten n l = onModel (gotBeat n) l
 
-  send-none : l .server .unsent ≡ [] → step (send i) s ≡ s
-  send-none e = ap (λ (o : Option Line). sendTo i o s) (a .found) ∙ ap (λ (u : List ℕ). sendFirst i u s) e
+abbrev pub replied : ℕ → Line → Line
+replied n l = onServer (acknowledge n (base (l .model)) (asked (l .model))) l
 
--- the heartbeat and the ACKNACK, once they arrive
+-- once they arrive. The line that sent the ACKNACK was l; numbers may have been sent to it since
+pub record Replied (i : ℕ) (l : Line) (n : ℕ) (s : State) : Type 0 where
+  pub line : Line
+  pub sent : Sent l line
+  pub credit : line .anew ≡ true → line .server .acked ≤ base (line .model)
+  pub above : Above (line .server)
+  pub within : base (line .model) ≤ suc n
+  pub at : At i (replied n line) n s
+
 module _ (i : ℕ) (l : Line) (n : ℕ) (s s′ : State) (h : Sound s) (a : At i l n s) where
-  pub carried-beat : Carried i (heartbeat i) s s′ → At i (onModel (gotBeat n) l) n s′
+  pub carried-beat : Carried i (heartbeat i) s s′ → (x : Line) × Sent l x × At i (beaten n x) n s′
   carried-beat c =
       let w = carried-at i l n s s′ h a (heartbeat i) (beat n) (ap (λ (o : Option Line). beatTo i o s) (a .found) ∙ ap (λ (k : ℕ). post i (beat k) s) (a .last)) c in
-      subst (At i (onModel (gotBeat n) l) n) (w .3) (at-beat i l n (w .0) (w .2))
+      (w .2 .line, w .2 .sent, subst (At i (beaten n (w .2 .line)) n) (w .3) (at-beat i (w .2 .line) n (w .0) (w .2 .at)))
 
-  pub carried-ack : base (l .model) ≤ suc n → Carried i (reply i) s s′ → At i (onServer (acknowledge n (base (l .model)) (asked (l .model))) l) n s′
-  carried-ack q c =
-      let w = carried-at i l n s s′ h a (reply i) (ack (ackNack (l .model))) (ap (λ (o : Option Line). replyFrom i o s) (a .found)) c in
-      subst (At i (onServer (acknowledge n (base (l .model)) (asked (l .model))) l) n) (w .3) (at-ack i l n (w .0) (w .2) (w .1) q)
+  pub carried-ack : Carried i (reply i) s s′ → Replied i l n s′
+  carried-ack c = record { line = x; sent = w .2 .sent; credit = fine .credit; above = fine .above; within = top; at = subst (At i (replied n x) n) ends (at-ack i x n (w .0) (w .2 .at) (w .1) top) }
+    where
+      w : (t : State) × Sound t × Idle i l n t × (arrive i (ack (ackNack (l .model))) t ≡ s′)
+      w = carried-at i l n s s′ h a (reply i) (ack (ackNack (l .model))) (ap (λ (o : Option Line). replyFrom i o s) (a .found)) c
+
+      x : Line
+      x = w .2 .line
+
+      fine : Fine (w .0 .flow) (w .0 .careful) (w .0 .net) (w .2 .line)
+      fine = w .1 .lines i (w .2 .line) (w .2 .at .found)
+
+      top : base (w .2 .line .model) ≤ suc n
+      top = omega (arith, base-last (w .0 .flow) (w .0 .careful) (w .0 .net) (w .2 .line) fine, w .2 .at .last)
+
+      ends : arrive i (ack (ackNack (w .2 .line .model))) (w .0) ≡ s′
+      ends = ap (λ (m : Model). arrive i (ack (ackNack m)) (w .0)) (w .2 .sent .model) ∙ w .3
 
 -- BETWEEN THE ACKNACKS
 
@@ -151,7 +161,7 @@ module _ (i n old : ℕ) (l₁ : Line) where
       more x p (inl v) = inl v
       more x p (inr v) = inr (posted-more x p (s .net) v)
 
-      go : (t .net ≡ s .net) ⊎ ((m : Msg) × (t .net ≡ m ∷ s .net)) → Moving i n old l₁ t
+      go : Grown (s .net) (t .net) → Moving i n old l₁ t
       go (inl e) = with-net (s .net) e (h .out) (h .long)
       go (inr e) = with-net (e .0 ∷ s .net) (e .1) (λ x v. more x (e .0) (h .out x v)) (omega (arith, h .long))
 
@@ -207,9 +217,12 @@ module _ (i n old : ℕ) (l₁ : Line) where
   moving-arrive (ack z) s o h = absurd o
 
   moving-step : (e : Event) (s : State) → Allowed i e s → Sound s → Moving i n old l₁ s → Moving i n old l₁ (step e s)
-  moving-step e s (inl d) hs h = moving-aside s (step e s) h (aside i (h .line) n s hs (h .at) e d)
-  moving-step e s (inr (inl d)) hs h = subst (λ (e : Event). Moving i n old l₁ (step e s)) (sym d) (moving-send s h)
-  moving-step e s (inr (inr d)) hs h =
+  moving-step e s (inl d) hs h = go (aside i (h .line) n s hs (h .at) e d)
+    where
+      go : (e ≡ send i) ⊎ Aside i (h .line) n (s .net) (step e s) → Moving i n old l₁ (step e s)
+      go (inl q) = subst (λ (e : Event). Moving i n old l₁ (step e s)) (sym q) (moving-send s h)
+      go (inr q) = moving-aside s (step e s) h q
+  moving-step e s (inr d) hs h =
       let is : step e s ≡ arrive i (d .body) s = ap (λ (e : Event). step e s) (d .delivers) ∙ ap (λ (o : Option Msg). arrives o s) (d .that) in
       subst (Moving i n old l₁) (sym is) (moving-arrive (d .body) s (d .outward) h)
 

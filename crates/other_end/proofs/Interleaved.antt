@@ -13,22 +13,13 @@ use Rattle.numbers.specs.Number.{numberAt}
 use Rattle.number_sets.specs.Bits.{wordOf, wordsOf}
 use Rattle.other_end.specs.Model.{base}
 use Rattle.other_end.specs.System.{Line, Body, sample, Msg, State, Event, match, write, sentTo, heartbeat, send, reply, deliver, find, nth, run, start}
-use Rattle.other_end.specs.Rounds.{Elsewhere, Beside, SettledAt, Received, Round}
+use Rattle.other_end.specs.Rounds.{Elsewhere, Beside, Arrives, SettledAt, Received, Round}
 use Rattle.other_end.proofs.Found.{some-line, some-msg}
 
--- WHAT A ROUND OF ANOTHER LINE DOES is beside a line, so nothing of the one bars the other
-module _ (i j : ℕ) (d : j ≡ i → ⊥) (s : State) where
-  pub sends-beside : Beside i (send j) s
-  sends-beside = d
-
-  pub heartbeat-beside : Beside i (heartbeat j) s
-  heartbeat-beside = tt
-
-  pub reply-beside : Beside i (reply j) s
-  reply-beside = tt
-
-  pub delivery-beside : (k : ℕ) (b : Body) → nth (s .net) k ≡ some (record { line = j; body = b }) → Beside i (deliver k) s
-  delivery-beside k b e = subst (Elsewhere i) (sym e) d
+-- WHAT A ROUND OF ANOTHER LINE DOES is beside a line, so nothing of the one bars the other: so are its heartbeat, its ACKNACKs and what is sent to it by
+-- the definition of `Beside`, and so is the arrival of each
+pub other-arrives : (i j : ℕ) → (j ≡ i → ⊥) → (s : State) (k : ℕ) (b : Body) → nth (s .net) k ≡ some (record { line = j; body = b }) → Beside i (deliver k) s
+other-arrives i j d s k b e = subst (Elsewhere i) (sym e) d
 
 -- A RUN
 
@@ -61,6 +52,10 @@ received-1 l s (suc zero) m q e o = absurd (two-one (ap (λ (y : Msg). y .line) 
 received-1 l s (suc (suc zero)) m q e o = subst (λ (y : Msg). SettledAt l (y .body)) (some-msg e) (ap (λ (u : List ℕ). has u 1) s)
 received-1 l s (suc (suc (suc k))) m q e o = absurd (omega arith)
 
+arrives-1 : Arrives 1 (deliver 1) (after 11)
+unfolding wordOf wordsOf
+arrives-1 = record { place = 1; body = sample 1; delivers = refl; that = refl; outward = tt }
+
 round-1 : Round 1 (after 0) (after 18)
 unfolding wordOf wordsOf
 round-1 =
@@ -72,22 +67,7 @@ round-1 =
       begun = after 7;
       first = record { meanwhile = deliver 1 ∷ reply 2 ∷ []; beside = (two-one, (tt, tt)); place = 1; that = refl; ends = refl };
       events = deliver 0 ∷ send 1 ∷ send 2 ∷ deliver 0 ∷ deliver 1 ∷ sentTo (numberAt 1) ∷ reply 2 ∷ [];
-      exchange = (
-        inl two-one,
-        (
-          inr (inl refl),
-          (
-            inl two-one,
-            (
-              inl two-one,
-              (
-                inr (inr (record { place = 1; body = sample 1; delivers = refl; that = refl; outward = tt })),
-                (inl tt, (inl tt, tt)),
-              ),
-            ),
-          ),
-        ),
-      );
+      exchange = (inl two-one, (inl tt, (inl tt, (inl two-one, (inr arrives-1, (inl tt, (inl tt, tt)))))));
       drained = λ l e. subst (λ (y : Line). y .server .unsent ≡ []) (some-line e) refl;
       received = λ l e. received-1 l (subst (λ (y : Line). y .model .settled ≡ 1 ∷ []) (some-line e) refl);
       second = record { meanwhile = deliver 1 ∷ match 3 true 4 ∷ []; beside = (two-one, (tt, tt)); place = 0; that = refl; ends = refl };
@@ -100,6 +80,10 @@ received-2 l s zero m q e o = subst (λ (y : Msg). SettledAt l (y .body)) (some-
 received-2 l s (suc zero) m q e o = absurd (one-two (ap (λ (y : Msg). y .line) (some-msg e) ∙ o))
 received-2 l s (suc (suc k)) m q e o = absurd (omega arith)
 
+arrives-2 : Arrives 2 (deliver 0) (after 10)
+unfolding wordOf wordsOf
+arrives-2 = record { place = 0; body = sample 1; delivers = refl; that = refl; outward = tt }
+
 round-2 : Round 2 (after 1) (after 16)
 unfolding wordOf wordsOf
 round-2 =
@@ -111,16 +95,7 @@ round-2 =
       begun = after 8;
       first = record { meanwhile = deliver 1 ∷ []; beside = (one-two, tt); place = 0; that = refl; ends = refl };
       events = send 1 ∷ send 2 ∷ deliver 0 ∷ deliver 1 ∷ sentTo (numberAt 1) ∷ [];
-      exchange = (
-        inl one-two,
-        (
-          inr (inl refl),
-          (
-            inr (inr (record { place = 0; body = sample 1; delivers = refl; that = refl; outward = tt })),
-            (inl one-two, (inl tt, tt)),
-          ),
-        ),
-      );
+      exchange = (inl tt, (inl tt, (inr arrives-2, (inl one-two, (inl tt, tt)))));
       drained = λ l e. subst (λ (y : Line). y .server .unsent ≡ []) (some-line e) refl;
       received = λ l e. received-2 l (subst (λ (y : Line). y .model .settled ≡ 1 ∷ []) (some-line e) refl);
       second = record { meanwhile = reply 1 ∷ []; beside = (tt, tt); place = 1; that = refl; ends = refl };

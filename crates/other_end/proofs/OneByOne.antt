@@ -21,9 +21,8 @@ use Rattle.other_end.specs.Rounds.{Each, Carried, Arrives, Allowed, open
 use Rattle.other_end.proofs.Found.{some-line, some-msg, find-same}
 use Rattle.other_end.proofs.Sound.{Sound}
 use Rattle.other_end.proofs.Runs.{sound-run}
-use Rattle.other_end.proofs.Beside.{At}
-use Rattle.other_end.proofs.Exchange.{send-is, carried-beat}
-use Rattle.other_end.proofs.Round.{beaten, replied, at-replied}
+use Rattle.other_end.proofs.Beside.{Sent, At, send-is}
+use Rattle.other_end.proofs.Exchange.{beaten, replied, Replied, carried-beat, carried-ack}
 
 without-head : (b m : ℕ) (ms : List ℕ) → From b (m ∷ ms) → without m (m ∷ ms) ≡ ms
 without-head b m ms h =
@@ -92,7 +91,7 @@ drains i n old [] s h w = (tt, w)
 drains i n old (m ∷ ms) s h w =
     let o = waits-on i n old m ms s h w in
     let r = drains i n old ms (step (deliver 0) (step (send i) s)) (sound-run (send i ∷ deliver 0 ∷ []) s h) (o .1) in
-    ((inr (inl refl), (inr (inr (o .0)), r .0)), r .1)
+    ((inl tt, (inr (o .0), r .0)), r .1)
 
 -- the message that e puts into the network arrives at once
 at-once : (i : ℕ) (e : Event) (b : Body) (s : State) → step e s ≡ post i b s → Carried i e s (step (deliver 0) (step e s))
@@ -120,20 +119,17 @@ one-round i l s h found =
       second = replies i (all .1 .line) (drained i (opened i s)) (all .1 .at .found);
     }
   where
-    at₁ : At i (beaten (s .flow .last) l) (s .flow .last) (run (heartbeat i ∷ deliver 0 ∷ []) s)
-    at₁ = carried-beat i l (s .flow .last) s (run (heartbeat i ∷ deliver 0 ∷ []) s) h (record { found = found; last = refl }) (beats i l s found)
+    b : (x : Line) × Sent l x × At i (beaten (s .flow .last) x) (s .flow .last) (run (heartbeat i ∷ deliver 0 ∷ []) s)
+    b = carried-beat i l (s .flow .last) s (run (heartbeat i ∷ deliver 0 ∷ []) s) h (record { found = found; last = refl }) (beats i l s found)
 
     first : Carried i (reply i) (run (heartbeat i ∷ deliver 0 ∷ []) s) (opened i s)
-    first = replies i (beaten (s .flow .last) l) (run (heartbeat i ∷ deliver 0 ∷ []) s) (at₁ .found)
+    first = replies i (beaten (s .flow .last) (b .0)) (run (heartbeat i ∷ deliver 0 ∷ []) s) (b .2 .found)
 
-    l₂ : Line
-    l₂ = replied (s .flow .last) (beaten (s .flow .last) l)
-
-    at₂ : At i (replied (s .flow .last) (beaten (s .flow .last) l)) (s .flow .last) (opened i s)
-    at₂ = at-replied i (beaten (s .flow .last) l) (s .flow .last) (run (heartbeat i ∷ deliver 0 ∷ []) s) (opened i s) (sound-run (heartbeat i ∷ deliver 0 ∷ []) s h) at₁ first
+    c : Replied i (beaten (s .flow .last) (b .0)) (s .flow .last) (opened i s)
+    c = carried-ack i (beaten (s .flow .last) (b .0)) (s .flow .last) (run (heartbeat i ∷ deliver 0 ∷ []) s) (opened i s) (sound-run (heartbeat i ∷ deliver 0 ∷ []) s h) (b .2) first
 
     all : Each (Allowed i) (sends i (unsentOf (find i (opened i s .lines)))) (opened i s) × Waits i (s .flow .last) (length (opened i s .net)) [] (drained i (opened i s))
     all =
-        subst (λ (o : Option Line). Each (Allowed i) (sends i (unsentOf o)) (opened i s) × Waits i (s .flow .last) (length (opened i s .net)) [] (run (sends i (unsentOf o)) (opened i s))) (sym (at₂ .found))
-        (drains i (s .flow .last) (length (opened i s .net)) (l₂ .server .unsent) (opened i s) (sound-run (heartbeat i ∷ deliver 0 ∷ reply i ∷ deliver 0 ∷ []) s h)
-        (record { line = l₂; at = at₂; unsent = refl; long = omega arith; received = λ k m q e o. absurd (omega arith) }))
+        subst (λ (o : Option Line). Each (Allowed i) (sends i (unsentOf o)) (opened i s) × Waits i (s .flow .last) (length (opened i s .net)) [] (run (sends i (unsentOf o)) (opened i s))) (sym (c .at .found))
+        (drains i (s .flow .last) (length (opened i s .net)) (replied (s .flow .last) (c .line) .server .unsent) (opened i s) (sound-run (heartbeat i ∷ deliver 0 ∷ reply i ∷ deliver 0 ∷ []) s h)
+        (record { line = replied (s .flow .last) (c .line); at = c .at; unsent = refl; long = omega arith; received = λ k m q e o. absurd (omega arith) }))

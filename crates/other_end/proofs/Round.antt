@@ -14,17 +14,17 @@ use Rattle.sets.proofs.Bools.{decide}
 use Rattle.sets.proofs.Has.{has-union}
 use Rattle.sets.proofs.Smallest.{has-take}
 use Rattle.rtps_reader_proxy.specs.Reader.{baseOf, isLate, ackedAfter, staying, wanted, acknowledge}
-use Rattle.other_end.specs.Model.{gotBeat, base, bits, asked, missing}
-use Rattle.other_end.specs.System.{Line, State, Event, heartbeat, reply, deliver, find, onServer, onModel, step, run}
+use Rattle.other_end.specs.Model.{Model, gotBeat, base, bits, asked, missing}
+use Rattle.other_end.specs.System.{Line, State, Event, heartbeat, reply, deliver, find, step, run}
 use Rattle.other_end.specs.Rounds.{Carried, Round}
 use Rattle.other_end.specs.Demand3.{Moved}
 use Rattle.other_end.proofs.Gaps.{gap-ge, gap-all, gap-past, has-missing}
 use Rattle.other_end.proofs.Records.{Above, between-in, wanted-rise}
-use Rattle.other_end.proofs.Fine.{Fine, base-last}
+use Rattle.other_end.proofs.Fine.{Fine}
 use Rattle.other_end.proofs.Sound.{Sound}
 use Rattle.other_end.proofs.Runs.{sound-run}
-use Rattle.other_end.proofs.Beside.{At, beside-at}
-use Rattle.other_end.proofs.Exchange.{Same, carried-beat, carried-ack, Moving, moving-run, moving-start, Drained, moving-drained}
+use Rattle.other_end.proofs.Beside.{Same, same-on, Sent, At, Idle, idle, idle-run}
+use Rattle.other_end.proofs.Exchange.{beaten, replied, Replied, carried-beat, carried-ack, Moving, moving-run, moving-start, Drained, moving-drained}
 
 -- A ROUND IS A RUN
 
@@ -111,54 +111,40 @@ closes n l credit kn e = (omega (arith, credit, gap-ge 1 (l .model .settled)), n
 
 -- THE ROUND
 
--- what the line is once it has heard the heartbeat, and what an ACKNACK makes of it
-abbrev pub beaten : ℕ → Line → Line
-beaten n l = onModel (gotBeat n) l
-
-abbrev pub replied : ℕ → Line → Line
-replied n l = onServer (acknowledge n (base (l .model)) (asked (l .model))) l
-
-pub at-replied : (i : ℕ) (l : Line) (n : ℕ) (s s′ : State) → Sound s → At i l n s → Carried i (reply i) s s′ → At i (replied n l) n s′
-at-replied i l n s s′ h a c = carried-ack i l n s s′ h a (omega (arith, base-last (s .flow) (s .careful) (s .net) l (h .lines i l (a .found)), a .last)) c
-
 module _ (i : ℕ) (l : Line) (n : ℕ) (s s′ : State) (h : Sound s) (a : At i l n s) (new : l .anew ≡ true) (r : Round i s s′) where
-  -- the states in which the two ACKNACKs are sent, and what the line is when it sends the first and when that is taken
+  -- the states in which the two ACKNACKs are sent
   abbrev s₁ : State
   s₁ = run (r .before) (r .heard)
 
   abbrev s₂ : State
   s₂ = run (r .events) (r .begun)
 
-  abbrev l₁ : Line
-  l₁ = beaten n l
+  -- the line: when it hears the heartbeat, when it sends the first ACKNACK, and when that is taken
+  b : (x : Line) × Sent l x × At i (beaten n x) n (r .heard)
+  b = carried-beat i l n s (r .heard) h a (r .announced)
 
-  abbrev l₂ : Line
-  l₂ = replied n (beaten n l)
+  w : Idle i (beaten n (b .0)) n s₁
+  w = idle-run i (beaten n (b .0)) n (r .before) (r .heard) (r .beside) (sound-runs s (r .heard) h (runs-heard i s s′ r)) (idle i (beaten n (b .0)) n (r .heard) (b .2))
 
-  at₁ : At i l₁ n s₁
-  at₁ =
-      beside-at i l₁ n (r .before) (r .heard) (r .beside) (sound-runs s (r .heard) h (runs-heard i s s′ r))
-      (carried-beat i l n s (r .heard) h a (r .announced))
+  c : Replied i (w .line) n (r .begun)
+  c = carried-ack i (w .line) n s₁ (r .begun) (sound-runs s s₁ h (runs-reply i s s′ r)) (w .at) (r .first)
 
-  sound₁ : Sound s₁
-  sound₁ = sound-runs s s₁ h (runs-reply i s s′ r)
+  model : c .line .model ≡ gotBeat n (l .model)
+  model = c .sent .model ∙ w .sent .model ∙ ap (gotBeat n) (b .1 .model)
 
-  fine₁ : Fine (s₁ .flow) (s₁ .careful) (s₁ .net) l₁
-  fine₁ = sound₁ .lines i l₁ (at₁ .found)
+  is : Same l (c .line)
+  is =
+      same-on l (w .line) (c .line)
+      (same-on l (b .0) (w .line) (b .1 .same) (record { cap = w .sent .same .cap; anew = w .sent .same .anew; reliable = w .sent .same .reliable; since = w .sent .same .since })) (c .sent .same)
 
-  known₁ : l₁ .model .known ≡ n
-  known₁ = omega (arith, h .lines i l (a .found) .known)
-
-  m : Moving i n (length (r .begun .net)) l₂ s₂
+  -- and when the second ACKNACK is sent, and taken
+  m : Moving i n (length (r .begun .net)) (replied n (c .line)) s₂
   m =
-      moving-run i n (length (r .begun .net)) l₂ (r .events) (r .begun) (r .exchange) (sound-runs s (r .begun) h (runs-begun i s s′ r))
-      (moving-start i n l₂ (r .begun)
-      (at-replied i l₁ n s₁ (r .begun) sound₁ at₁ (r .first)))
+      moving-run i n (length (r .begun .net)) (replied n (c .line)) (r .events) (r .begun) (r .exchange) (sound-runs s (r .begun) h (runs-begun i s s′ r))
+      (moving-start i n (replied n (c .line)) (r .begun) (c .at))
 
-  d : Drained l₂ (m .line)
-  d =
-      moving-drained i n (length (r .begun .net)) l₂ s₂ m
-      (r .drained (m .line) (m .at .found)) (r .received (m .line) (m .at .found))
+  d : Drained (replied n (c .line)) (m .line)
+  d = moving-drained i n (length (r .begun .net)) (replied n (c .line)) s₂ m (r .drained (m .line) (m .at .found)) (r .received (m .line) (m .at .found))
 
   sound₂ : Sound s₂
   sound₂ = sound-runs s s₂ h (runs-drained i s s′ r)
@@ -166,34 +152,54 @@ module _ (i : ℕ) (l : Line) (n : ℕ) (s s′ : State) (h : Sound s) (a : At i
   fine₂ : Fine (s₂ .flow) (s₂ .careful) (s₂ .net) (m .line)
   fine₂ = sound₂ .lines i (m .line) (m .at .found)
 
-  known₂ : m .line .model .known ≡ n
-  known₂ = omega (arith, d .known, known₁, fine₂ .known, m .at .last)
+  e : Replied i (m .line) n s′
+  e = carried-ack i (m .line) n s₂ s′ sound₂ (m .at) (r .second)
+
+  was : Same l (e .line)
+  was =
+      same-on l (m .line) (e .line)
+      (same-on l (c .line) (m .line) is (record { cap = d .same .cap; anew = d .same .anew; reliable = d .same .reliable; since = d .same .since })) (e .sent .same)
+
+  -- what it knows
+  known₁ : c .line .model .known ≡ n
+  known₁ = ap (λ (y : Model). y .known) model ∙ omega (arith, h .lines i l (a .found) .known, a .last)
+
+  known₂ : e .line .model .known ≡ n
+  known₂ = ap (λ (y : Model). y .known) (e .sent .model) ∙ omega (arith, d .known, known₁, fine₂ .known, m .at .last)
+
+  -- and what it has
+  settled₁ : (x : ℕ) → has (c .line .model .settled) x ≡ has (l .model .settled) x
+  settled₁ x = ap (λ (y : Model). has (y .settled) x) model
 
   gets : (k : ℕ) → base (l .model) + k ≡ suc n → (x : ℕ) → 1 ≤ x → x < base (l .model) + min k (min 256 (l .server .cap)) → has (m .line .model .settled) x ≡ true
-  gets k q x p w = below (decide (ltb x (base (l .model))))
+  gets k q x p v = below (decide (ltb x (base (l .model))))
     where
+      start : base (c .line .model) ≡ base (l .model)
+      start = ap base model
+
       later : (has (l .model .settled) x ≡ true) ⊎ (has (l .model .settled) x ≡ false) → base (l .model) ≤ x → has (m .line .model .settled) x ≡ true
-      later (inl e) g = d .old x e
-      later (inr e) g = d .new x (asked-for n l₁ (fine₁ .credit new) (fine₁ .above) known₁ k x q g w e)
+      later (inl f) g = d .old x (settled₁ x ∙ f)
+      later (inr f) g =
+          d .new x (asked-for n (c .line) (c .credit (is .anew ∙ new)) (c .above) known₁ k x (omega (arith, q, start)) (omega (arith, g, start)) (omega (arith, v, start, is .cap)) (settled₁ x ∙ f))
 
       below : (ltb x (base (l .model)) ≡ true) ⊎ (ltb x (base (l .model)) ≡ false) → has (m .line .model .settled) x ≡ true
-      below (inl e) = d .old x (gap-all 1 (l .model .settled) x (h .lines i l (a .found) .rise) p (ltb-true x (base (l .model)) e))
-      below (inr e) = later (decide (has (l .model .settled) x)) (ltb-false x (base (l .model)) e)
+      below (inl f) = d .old x (settled₁ x ∙ gap-all 1 (l .model .settled) x (h .lines i l (a .found) .rise) p (ltb-true x (base (l .model)) f))
+      below (inr f) = later (decide (has (l .model .settled) x)) (ltb-false x (base (l .model)) f)
 
   pub round-moves : (l′ : Line) × (find i (s′ .lines) ≡ some l′) × (s′ .flow .last ≡ n) × Same l l′ × Moved n l l′
-  round-moves = (replied n (m .line), at₃ .found, at₃ .last, record { cap = d .same .cap; anew = d .same .anew; reliable = d .same .reliable; since = d .same .since }, moved)
+  round-moves = (replied n (e .line), e .at .found, e .at .last, record { cap = was .cap; anew = was .anew; reliable = was .reliable; since = was .since }, moved)
     where
-      at₃ : At i (replied n (m .line)) n s′
-      at₃ = at-replied i (m .line) n s₂ s′ sound₂ (m .at) (r .second)
+      ends : (ackedAfter (e .line .server .acked) (base (e .line .model)) ≡ base (e .line .model)) × (base (e .line .model) ≡ suc n → acknowledge n (base (e .line .model)) (asked (e .line .model)) (e .line .server) .unsent ≡ [])
+      ends = closes n (e .line) (e .credit (was .anew ∙ new)) known₂ (e .sent .none (d .empty))
 
-      ends : (ackedAfter (m .line .server .acked) (base (m .line .model)) ≡ base (m .line .model)) × (base (m .line .model) ≡ suc n → acknowledge n (base (m .line .model)) (asked (m .line .model)) (m .line .server) .unsent ≡ [])
-      ends = closes n (m .line) (fine₂ .credit (d .same .anew ∙ new)) known₂ (d .empty)
-
-      moved : Moved n l (replied n (m .line))
+      moved : Moved n l (replied n (e .line))
       moved =
           record {
-            on = λ k q. gap-past 1 (base (l .model) + min k (min 256 (l .server .cap))) (m .line .model .settled) (fine₂ .rise) (gets k q);
-            within = omega (arith, base-last (s₂ .flow) (s₂ .careful) (s₂ .net) (m .line) fine₂, m .at .last);
+            on = λ k q.
+                let v = gap-past 1 (base (l .model) + min k (min 256 (l .server .cap))) (m .line .model .settled) (fine₂ .rise) (gets k q) in
+                let z : base (e .line .model) ≡ base (m .line .model) = ap base (e .sent .model) in
+                omega (arith, v, z);
+            within = e .within;
             agree = ends .0;
             clear = ends .1;
           }

@@ -27,7 +27,7 @@ use Rattle.other_end.proofs.Calls.{done-clear, both-false, call-cap}
 use Rattle.other_end.proofs.Fine.{Sane, base-last, settle-base}
 use Rattle.other_end.proofs.Sound.{Sound}
 use Rattle.other_end.proofs.Runs.{sound-step, sound-run}
-use Rattle.other_end.proofs.Exchange.{Same, same, same-on}
+use Rattle.other_end.proofs.Beside.{Same, same, same-on}
 use Rattle.other_end.proofs.Round.{Runs, runs-on, sound-runs, runs-round, round-moves}
 
 -- what the line l may become while nothing is written: it is the same, and knows no less

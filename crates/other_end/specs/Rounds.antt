@@ -18,8 +18,8 @@ abbrev pub Elsewhere : ℕ → Option Msg → Type 0
 Elsewhere i none = Unit {0}
 Elsewhere i (some m) = m .line ≡ i → ⊥
 
--- the event, in the state s, is beside the line i: no write; no departure, call or send of i; and no delivery to i or from it. A heartbeat or an ACKNACK
--- of i that isn't delivered is nothing to it, and a match of i is refused while i is there
+-- the event, in the state s, is beside the line i: no write; no departure and no other call of i; and no delivery to i or from it. What is sent to i or
+-- from it, and isn't delivered, is nothing to it; and a match of i is refused while i is there
 abbrev pub Beside : ℕ → Event → State → Type 0
 Beside i (match j r m) s = Unit {0}
 Beside i (depart j) s = j ≡ i → ⊥
@@ -28,7 +28,7 @@ Beside i (sentTo n) s = Unit {0}
 Beside i (evictTo n) s = Unit {0}
 Beside i (call j c) s = j ≡ i → ⊥
 Beside i (heartbeat j) s = Unit {0}
-Beside i (send j) s = j ≡ i → ⊥
+Beside i (send j) s = Unit {0}
 Beside i (reply j) s = Unit {0}
 Beside i (deliver k) s = Elsewhere i (nth (s .net) k)
 
@@ -63,10 +63,10 @@ pub record Arrives (i : ℕ) (e : Event) (s : State) : Type 0 where
   pub that : nth (s .net) place ≡ some (record { line = i; body = body })
   pub outward : Outward body
 
--- between the two ACKNACKs, among events beside the line i: the writer sends to it, and what is sent to it arrives, in any order, any number of times.
--- What was sent to it before may arrive too, though document 01's round has no such delivery
+-- between the two ACKNACKs what is sent to the line i arrives too, in any order, any number of times, among events beside it. What was sent to it before
+-- may arrive as well, though document 01's round has no such delivery
 abbrev pub Allowed : ℕ → Event → State → Type 0
-Allowed i e s = Beside i e s ⊎ ((e ≡ send i) ⊎ Arrives i e s)
+Allowed i e s = Beside i e s ⊎ Arrives i e s
 
 -- what a message says is settled at the line
 abbrev pub SettledAt : Line → Body → Type 0
