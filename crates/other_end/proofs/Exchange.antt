@@ -75,7 +75,7 @@ beaten n l = onModel (gotBeat n) l
 abbrev pub replied : ℕ → Line → Line
 replied n l = onServer (acknowledge n (base (l .model)) (asked (l .model))) l
 
--- once they arrive. The line that sent the ACKNACK was l; numbers may have been sent to it since
+-- an ACKNACK is taken: the line that sent it was l, and is `line` by then, since numbers may have been sent to it meanwhile
 pub record Replied (i : ℕ) (l : Line) (n : ℕ) (s : State) : Type 0 where
   pub line : Line
   pub sent : Sent l line

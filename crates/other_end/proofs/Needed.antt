@@ -170,6 +170,22 @@ three-late : view (find 1 (run (reply 1 ∷ deliver 5 ∷ deliver 0 ∷ []) (dra
 unfolding wordOf wordsOf
 three-late = refl
 
+-- EVICTION PAST THE FRONTIER IN A ROUND: the line moves on, but by a gap: it isn't kept
+abbrev gapped : State
+gapped = closed 1 (drained 1 (run (evictTo (numberAt 2) ∷ []) (opened 1 (run (match 1 true 4 ∷ write 1 false ∷ []) new))))
+
+gapped-on : view (find 1 (gapped .lines)) ≡ 2 ∷ 2 ∷ []
+unfolding wordOf wordsOf
+gapped-on = refl
+
+gapped-data : dataAt (find 1 (gapped .lines)) ≡ []
+unfolding wordOf wordsOf
+gapped-data = refl
+
+gapped-careful : gapped .careful ≡ false
+unfolding wordOf wordsOf
+gapped-careful = refl
+
 -- DEMAND 3 IS NOT EMPTY: a run that comes to a kept line with an acknowledged and evicted sample, an unacknowledged one, a gap and a requested fragment
 abbrev lived : List Event
 lived =
