@@ -83,11 +83,14 @@ module _ (i : ℕ) (l : Line) (n : ℕ) (s : State) (h : Sound s) (a : At i l n 
       go false e = unmoved
 
   -- no id is matched while it is there, so a match that is done is another's
+  pub match-other : (j m : ℕ) → isDone (answerOf (matchRows j m s)) ≡ true → eqb i j ≡ false
+  match-other j m d =
+      let absent = both-false (eqb j 0) (isThere j (s .heads)) (done-clear (matchRows j m s) d .reader) .1 in
+      ne-eqb i j (λ (q : i ≡ j). clash (isThere j (s .heads)) (subst (λ (k : ℕ). isThere k (s .heads) ≡ true) q (h .held i l (a .found) .there)) absent)
+
   aside-match : (j : ℕ) (r : Bool) (m : ℕ) → isDone (answerOf (matchRows j m s)) ≡ true → Aside i l n (s .net) (joined j r m s)
   aside-match j r m d =
-      let absent = both-false (eqb j 0) (isThere j (s .heads)) (done-clear (matchRows j m s) d .reader) .1 in
-      let away : eqb i j ≡ false = ne-eqb i j (λ (q : i ≡ j). clash (isThere j (s .heads)) (subst (λ (k : ℕ). isThere k (s .heads) ≡ true) q (h .held i l (a .found) .there)) absent) in
-      record { at = record { found = ap (λ (t : Bool). cond t (some (newcomer j r m s)) (find i (s .lines))) away ∙ a .found; last = a .last }; grows = inl refl }
+      record { at = record { found = ap (λ (t : Bool). cond t (some (newcomer j r m s)) (find i (s .lines))) (match-other j m d) ∙ a .found; last = a .last }; grows = inl refl }
 
   -- the lines of another id changed
   module _ (j : ℕ) (d : j ≡ i → ⊥) where

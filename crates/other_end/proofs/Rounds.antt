@@ -8,14 +8,13 @@ use mathlib.Core.Option.{Option, none, some}
 use lib.Dec.{eqb}
 use native.Mathlib.Omega.{arith}
 use native.Mathlib.Nat.{zero-mul, suc-mul, div-lt-iff-lt-mul}
-use borrow.Author.Tests.{eqb-true, eqb-false, ne-eqb}
-use Rattle.sets.proofs.Bools.{clash, decide}
+use borrow.Author.Tests.{eqb-true, eqb-false}
+use Rattle.sets.proofs.Bools.{decide}
 use Rattle.numbers.specs.Number.{rankOf}
 use Rattle.numbers.specs.Refusals.{answerOf, isDone}
 use Rattle.numbers.specs.declared.answer.Rows.{Rows}
 use Rattle.number_sets.specs.Bits.{members}
 use Rattle.rtps_reader_proxy.specs.Reader.{acknowledge, markedSent}
-use Rattle.reader_list.specs.Readers.{isThere}
 use Rattle.writer_send_buffer.specs.Flow.{raised}
 use Rattle.other_end.specs.Model.{gotData, gotGap, gotBeat, base}
 use Rattle.other_end.specs.Calls.{Call, result, callRows}
@@ -23,11 +22,11 @@ use Rattle.other_end.specs.System.{Line, Body, sample, gap, beat, ack, M
 use Rattle.other_end.specs.Rounds.{Quiet, Rounds}
 use Rattle.other_end.specs.Demand3.{Moved, Reached, roundsFor}
 use Rattle.other_end.proofs.Found.{find-same, find-other, find-stays}
-use Rattle.other_end.proofs.Calls.{done-clear, both-false, call-cap}
+use Rattle.other_end.proofs.Calls.{call-cap}
 use Rattle.other_end.proofs.Fine.{Sane, base-last, settle-base}
 use Rattle.other_end.proofs.Sound.{Sound}
 use Rattle.other_end.proofs.Runs.{sound-step, sound-run}
-use Rattle.other_end.proofs.Beside.{Same, same, same-on}
+use Rattle.other_end.proofs.Beside.{Same, same, same-on, match-other}
 use Rattle.other_end.proofs.Round.{Runs, runs-on, sound-runs, runs-round, round-moves}
 
 -- what the line l may become while nothing is written: it is the same, and knows no less
@@ -63,8 +62,7 @@ module _ (i : ℕ) (l : Line) (s : State) (h : Sound s) (found : find i (s .line
 
   next-match : (j : ℕ) (r : Bool) (m : ℕ) → isDone (answerOf (matchRows j m s)) ≡ true → Next i l (s .flow .last) (joined j r m s)
   next-match j r m d =
-      let absent = both-false (eqb j 0) (isThere j (s .heads)) (done-clear (matchRows j m s) d .reader) .1 in
-      let away : eqb i j ≡ false = ne-eqb i j (λ (q : i ≡ j). clash (isThere j (s .heads)) (subst (λ (k : ℕ). isThere k (s .heads) ≡ true) q (h .held i l found .there)) absent) in
+      let away = match-other i l (s .flow .last) s h (record { found = found; last = refl }) j m d in
       (l, ap (λ (t : Bool). cond t (some (newcomer j r m s)) (find i (s .lines))) away ∙ found, refl, unchanged l)
 
   next-call : (j : ℕ) (c : Call) (o : Option Line) → Next i l (s .flow .last) (called j c o s)
