@@ -2,6 +2,7 @@
 pub mod Whole
 pub mod Kept
 pub mod Steps
+pub mod Acknowledged
 pub mod InPart
 pub mod UnsentInPart
 pub mod GapsInPart

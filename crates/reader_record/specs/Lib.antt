@@ -1,4 +1,5 @@
 -- The definitions of `reader_record`.
 pub mod Whole
+pub mod Acknowledged
 pub mod Play
 pub mod InPart
