@@ -1,21 +1,30 @@
 -- Document 01's starred examples as one table: what the definitions that the promises cite give, beside what document 01 says. Every row computes.
 -- Assumes nothing.
-use Prim.Native.Nat.{ℕ, _+_}
+use Prim.Native.Nat.{ℕ}
 use mathlib.Core.Path.{_≡_}
-use mathlib.Core.Bool.{Bool, true, false, cond}
+use mathlib.Core.Bool.{true, false}
 use mathlib.Core.List.{List, [], _∷_, _++_}
 use lib.ListN.{replicate, take}
-use Rattle.numbers.specs.Number.{rankOf, numberAt}
-use Rattle.numbers.specs.Refusals.{answerOf, isDone}
+use Rattle.numbers.specs.Number.{rankOf, numberAt, fragmentAt}
+use Rattle.numbers.specs.Refusals.{done}
+use Rattle.numbers.specs.Cursor.{cursorAt}
+use Rattle.numbers.specs.Promise.{Left2, Left3}
 use Rattle.number_sets.specs.declared.sequence_number_set.SequenceNumberSet.{SequenceNumberSet}
+use Rattle.number_sets.specs.declared.fragment_number_set.FragmentNumberSet.{FragmentNumberSet}
 use Rattle.number_sets.specs.Bits.{members}
 use Rattle.number_sets.specs.Calls.{sequenceSet}
-use Rattle.requested_fragments.specs.Entries.{Entry, requested, sent, nextSample, nextFragment}
+use Rattle.rtps_reader_proxy.specs.declared.proxy.Changed.{Changed}
+use Rattle.rtps_reader_proxy.specs.declared.fragments.NextFragRequested.{NextFragRequested}
 use Rattle.rtps_reader_proxy.specs.Reader.{Reader}
-use Rattle.rtps_reader_proxy.specs.Record.{headOf, unsentRoom, gapRoom}
+use Rattle.rtps_reader_proxy.specs.Record.{headOf, unsentRoom, gapRoom, changed}
 use Rattle.rtps_reader_proxy.specs.Unsent.{notifiedOf}
 use Rattle.rtps_reader_proxy.specs.Acks.{ackNackedOf}
-use Rattle.writer_send_buffer.specs.Flow.{Flow, fits, admitRows, admitted}
+use Rattle.rtps_reader_proxy.specs.Fragments.{fragsRequestedOf, fragSentOf, nextFragOf}
+use Rattle.writer_send_buffer.specs.declared.flow.WriterSendBuffer.{WriterSendBuffer}
+use Rattle.writer_send_buffer.specs.declared.flow.Numbered.{Numbered}
+use Rattle.writer_send_buffer.specs.Flow.{Flow}
+use Rattle.writer_send_buffer.specs.Buffer.{form, noNumber}
+use Rattle.writer_send_buffer.specs.Samples.{admitOf}
 
 -- a row: the numbers that the definitions give, and those that document 01 says
 pub record Row : Type 0 where
@@ -45,20 +54,48 @@ notify n r =
     let o = notifiedOf (numberAt n) (headOf r) (unsentRoom r) in
     o .result .answer .number ∷ take (o .result .proxy .«unsent_count») (o .first)
 
--- the next requested fragment: its sample and its number
-abbrev pub next : List Entry → List ℕ
-next es = nextSample es ∷ nextFragment 1 es ∷ []
+-- a set of fragments: a base, a bit count and its first word
+abbrev pub pieces : ℕ → ℕ → ℕ → FragmentNumberSet
+pieces base count word = record { base = fragmentAt base; count = count; words = word ∷ 0 ∷ 0 ∷ 0 ∷ 0 ∷ 0 ∷ 0 ∷ 0 ∷ [] }
 
--- two writes of 3 bytes: the answer of each
-abbrev pub writes : ℕ → Flow → List ℕ
-writes n f = answerOf (admitRows (fits f) n f false) .number ∷ cond (isDone (answerOf (admitRows (fits f) n f false))) (answerOf (admitRows (fits (admitted f false)) n (admitted f false) false) .number ∷ []) []
+-- what a call on the requested fragments answered and left: the head, and of its rooms the places of two samples, which are lent
+abbrev pub Lent : Type 0
+Lent = Left2 Changed (List ℕ) (List ℕ)
+
+-- before any call: nothing is requested
+abbrev pub none : Lent
+none = record { result = changed done (headOf (reader 0 8 [])); first = replicate 2 0; second = replicate 128 0 }
+
+-- the call after another: sample n asks; fragment f of sample n is marked sent
+abbrev pub request : ℕ → FragmentNumberSet → Lent → Lent
+request n set o = fragsRequestedOf (numberAt n) set (o .result .proxy) (o .first) (o .second)
+
+abbrev pub mark : ℕ → ℕ → Lent → Lent
+mark n f o = fragSentOf (numberAt n) (fragmentAt f) (o .result .proxy) (o .first) (o .second)
+
+-- what a call answered
+abbrev pub said : Lent → ℕ
+said o = o .result .answer .number
+
+-- the next requested fragment from 1 on: the answer, its sample and its number
+abbrev pub piece : NextFragRequested → List ℕ
+piece x = x .answer .number ∷ rankOf (x .sample) ∷ x .fragment .0 ∷ []
+
+abbrev pub next : Lent → List ℕ
+next o = piece (nextFragOf (cursorAt 1) (o .result .proxy) (o .first) (o .second))
 
 -- f1: "sample 9 asks 1 and 3, sample 7 asks 2"; f2: "sample 4 asks nothing, 9 asks 2"
-abbrev pub f1 : List Entry
-f1 = requested 7 (2 ∷ []) (requested 9 (1 ∷ 3 ∷ []) [])
+abbrev pub f1First : Lent
+f1First = request 9 (pieces 1 3 0xA0000000) none
 
-abbrev pub f2 : List Entry
-f2 = requested 9 (2 ∷ []) (requested 4 [] [])
+abbrev pub f1 : Lent
+f1 = request 7 (pieces 2 1 0x80000000) f1First
+
+abbrev pub f2First : Lent
+f2First = request 4 (pieces 1 0 0) none
+
+abbrev pub f2 : Lent
+f2 = request 9 (pieces 2 1 0x80000000) f2First
 
 -- w1: "window 2, backlog 8, reliable reader, acked 1, last 1, sent 1"
 abbrev pub w1 : Flow
@@ -72,6 +109,21 @@ w1 =
       kind = record { reliable = true; builtin = false; volatile = true };
       limits = record { window = 2; backlog = 8; retain = 4; slots = 4; «slot_bytes» = 16 };
     }
+
+-- what a write answered and left: the flow record, the store and the lengths
+abbrev pub Stored : Type 0
+Stored = Left3 Numbered WriterSendBuffer (List ℕ) (List ℕ)
+
+-- before any call: sample 1 has 3 bytes
+abbrev pub begun : Stored
+begun = record { result = noNumber done; first = form w1; second = replicate 64 0; third = 3 ∷ 0 ∷ 0 ∷ 0 ∷ [] }
+
+-- a write of 3 bytes after another call, and what it answered: with the number that the sample got
+abbrev pub write : Stored → Stored
+write o = admitOf (o .first) (o .second) (o .third) (1 ∷ 2 ∷ 3 ∷ []) false
+
+abbrev pub numbered : Stored → List ℕ
+numbered o = o .result .answer .number ∷ rankOf (o .result .number) ∷ []
 
 -- "Start for a1 to a4: last 5, A 3, unsent {4}, M 8"
 abbrev pub table : List Row
@@ -93,12 +145,12 @@ table =
     -- s1 base 10, 3 bits, word 0xA0000000: {10,12}
     ∷ row (members (sequenceSet (asks 10 3 0xA0000000))) (10 ∷ 12 ∷ [])
     -- f1 next 7/2; once that is marked sent, 9/1
-    ∷ row (next f1) (7 ∷ 2 ∷ [])
-    ∷ row (next (sent 7 2 f1)) (9 ∷ 1 ∷ [])
+    ∷ row (said f1First ∷ said f1 ∷ next f1) (0 ∷ 0 ∷ 0 ∷ 7 ∷ 2 ∷ [])
+    ∷ row (said (mark 7 2 f1) ∷ next (mark 7 2 f1)) (0 ∷ 0 ∷ 9 ∷ 1 ∷ [])
     -- f2 next 9/2
-    ∷ row (next f2) (9 ∷ 2 ∷ [])
+    ∷ row (said f2First ∷ said f2 ∷ next f2) (0 ∷ 0 ∷ 0 ∷ 9 ∷ 2 ∷ [])
     -- w1 2 admitted, then 6
-    ∷ row (writes 3 w1) (0 ∷ 6 ∷ [])
+    ∷ row (numbered (write begun) ++ numbered (write (write begun))) (0 ∷ 2 ∷ 6 ∷ 0 ∷ [])
     ∷ []
 
 -- THE CLAIM: each row gives what document 01 says
