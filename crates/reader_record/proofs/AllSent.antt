@@ -22,7 +22,7 @@ use Rattle.numbers.proofs.Ranks.{rank-back}
 use Rattle.rising.proofs.Meaning.{rises-are}
 use Rattle.requested_fragments.specs.Entries.{Entry, samplesOf, sent, nextSample, nextFragment, some}
 use Rattle.requested_fragments.specs.Table.{coherentRooms, entriesOf, samplesRoom, wordsRoom, markedIn}
-use Rattle.requested_fragments.specs.Drain.{Piece, allAsked, Run, offering, turns, times, isAsked}
+use Rattle.requested_fragments.specs.Drain.{Piece, allAsked, Run, offering, turns, times}
 use Rattle.requested_fragments.proofs.Drained.{drained, once}
 use Rattle.requested_fragments.proofs.Whole.{coherent-sound}
 use Rattle.requested_fragments.proofs.Coherent.{is-coherent}
@@ -34,8 +34,9 @@ use Rattle.rtps_reader_proxy.specs.declared.fragments.NextFragRequested.{NextFr
 use Rattle.rtps_reader_proxy.specs.declared.fragments.Told.{Told}
 use Rattle.rtps_reader_proxy.specs.Reader.{Reader, fragsRequested}
 use Rattle.rtps_reader_proxy.specs.Record.{headOk}
-use Rattle.rtps_reader_proxy.specs.Fragments.{fragsOk, countFrags, entriesIn, fragSentOf, nextFragOf, repairOf}
+use Rattle.rtps_reader_proxy.specs.Fragments.{fragsOk, countFrags, entriesIn, fragSentOf, nextFragOf}
 use Rattle.reader_record.specs.Play.{Played, ended, offers, onward, turn, play}
+use Rattle.reader_record.specs.AllSent.{Drains}
 use Rattle.reader_record.proofs.Whole.{HeadIs, head-is}
 
 -- what is offered is a sample number and a fragment number, which the answer can hold
@@ -139,13 +140,6 @@ alike (suc k) h S W ok =
         }
 
 -- THE THEOREM, of the reader's calls
-pub record Drains (h : ReaderProxy) (S W : List ℕ) (p : Played) : Type 0 where
-  -- each requested fragment is offered once, and nothing else
-  pub offered : (n f : ℕ) → times n f (p .offered) ≡ cond (isAsked n f (entriesIn h S W)) 1 0
-  -- the record passes the check, and tells that none is requested
-  pub passes : fragsOk (p .head) (p .samples) (p .words) ≡ true
-  pub none : repairOf (p .head) (p .samples) (p .words) ≡ record { answer = done; yes = false }
-
 pub all-sent : (k : ℕ) (h : ReaderProxy) (S W : List ℕ) → fragsOk h S W ≡ true → length (allAsked (entriesIn h S W)) ≤ k → Drains h S W (play k h S W)
 all-sent k h S W ok q =
     let a = alike k h S W ok in

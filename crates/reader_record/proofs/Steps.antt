@@ -39,7 +39,7 @@ use Rattle.rtps_reader_proxy.specs.Unsent.{countUnsent, byUnsent, unsentBy, not
 use Rattle.rtps_reader_proxy.specs.Gaps.{countGaps, byGaps, gapsBy, beyond, gapInsertedOf, gapUpToOf}
 use Rattle.rtps_reader_proxy.specs.Fragments.{fragsOk, countFrags, byFrags, fragsBy, cannotAsk, noSlot, fragsRequestedOf, fragSentOf}
 use Rattle.rtps_reader_proxy.specs.Acks.{ackRows, ackNackedOf, ackLeaves}
-use Rattle.reader_record.specs.Whole.{Picture, isCoherent, view, form, Valid}
+use Rattle.reader_record.specs.Whole.{Picture, isCoherent, view, form, Valid, Stands}
 use Rattle.rtps_reader_proxy.proofs.FragCalls.{CanAsk, can-ask}
 use Rattle.reader_record.proofs.Whole.{same-picture, view-form, form-coherent, view-valid, unsent-long, gaps-long, samples-long, acked-back, prefix-back, unsent-back, gaps-back, frags-back}
 use Rattle.reader_record.proofs.Kept.{notified-valid, marked-valid, removed-valid, untaken-valid, inserted-valid, up-to-valid, acknowledged-valid, requested-valid, sent-valid}
@@ -54,11 +54,6 @@ module _ {A : Type 0} (rows : Rows) (f : Answer → A) (d : A) (answered : A →
       go false q z =
           let y : answerOf rows .number ≡ 0 = ap (λ (a : Answer). a .number) (sym (e (answerOf rows))) ∙ z in
           absurd (true≢false (sym (eq-eqb (answerOf rows .number) 0 y) ∙ q))
-
--- a picture stands for a valid reader: it is its form
-pub record Stands (q : Picture) (r : Reader) : Type 0 where
-  pub is : q ≡ form r
-  pub valid : Valid r
 
 pub stands-view : (q : Picture) (r : Reader) → Stands q r → view q ≡ r
 stands-view q r s = ap view (s .is) ∙ view-form r (s .valid)

@@ -2,4 +2,5 @@
 pub mod Whole
 pub mod Acknowledged
 pub mod Play
+pub mod AllSent
 pub mod InPart

@@ -60,3 +60,8 @@ pub record Valid (r : Reader) : Type 0 where
   pub frags-few : length (r .frags) ≤ 16
   pub frags : risesAbove 0 (samplesOf (r .frags)) ≡ true
   pub asks : EachAsks (r .frags)
+
+-- a picture stands for a valid reader: it is its form
+pub record Stands (q : Picture) (r : Reader) : Type 0 where
+  pub is : q ≡ form r
+  pub valid : Valid r
