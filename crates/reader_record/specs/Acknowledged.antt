@@ -14,7 +14,7 @@ use Rattle.reader_record.specs.Whole.{Valid}
 abbrev pub stays : ℕ → ℕ → Reader → ℕ → Bool
 stays last b r n = has (r .unsent) n && (isLate (r .acked) b || (leb (baseOf b) n && leb n last))
 
--- n joins: it is a member "from A through last"; `a` is A as it is afterwards, which is b if the acknowledgement isn't late
+-- n joins: it is a member "from A through last"; `a` is A as it is afterwards, which is b if the acknowledgement isn't late. It is at least 1, so "member 0 is dropped"
 abbrev pub joins : ℕ → ℕ → List ℕ → ℕ → Bool
 joins last a ms n = has ms n && (leb a n && leb n last)
 
@@ -28,7 +28,7 @@ smaller n l = length (only (λ k. ltb k n) l)
 
 -- an acknowledgement with the base b and the members ms, where `last` is the last number written, makes r into r′ and reports that `left` were left out
 pub record Acknowledged (last b : ℕ) (ms : List ℕ) (r r′ : Reader) (left : ℕ) : Type 0 where
-  -- "b < A (late): A stays"; "otherwise: A becomes b", so the base is the first number not acknowledged
+  -- "b < A (late): A stays"; "otherwise: A becomes b": the base is the first number not acknowledged, and not the last one that is (DDSI-RTPS 2.5, 8.3.5.4)
   pub acked : r′ .acked ≡ cond (isLate (r .acked) b) (r .acked) (baseOf b)
   -- A never falls, and never comes past the number after the last
   pub never-falls : r .acked ≤ r′ .acked
