@@ -2,3 +2,4 @@
 pub mod Laws
 pub mod SetLaws
 pub mod LineLaws
+pub mod Examples

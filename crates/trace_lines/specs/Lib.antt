@@ -2,4 +2,3 @@
 pub mod Words
 pub mod Sets
 pub mod Lines
-pub mod Examples
