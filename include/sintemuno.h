@@ -3,14 +3,14 @@
  * Link with libsintemuno.a (`rt staticlib sintemuno` writes target/staticlib/libsintemuno.a; x86-64, System V calls; it needs no other library).
  *
  * EVERY ENTRY TAKES ANY NUMBERS AND ANY LENGTHS. It doesn't panic, overflow, or read or write outside of what it is lent, and it returns. What it
- * can't do it refuses by a number of the table below; it then returns zeros, hands a head back as it was, and has changed nothing that it was lent.
+ * can't do it refuses by a number of the table below; it then returns zeros, hands a proxy back as it was, and has changed nothing that it was lent.
  * What is promised of each entry, whole, stands in crates/sintemuno/src: the `ensures` of the function of the same name.
  *
  * What C itself owes, since no proof reaches it:
  * - a pointer with its length is to so many elements that are there, and aligned; it isn't NULL. For length 0 any non-NULL pointer will do;
  * - two things lent to one call don't overlap, unless both are lent `const`; nobody else changes them meanwhile;
  * - a bool is 0 or 1 (C's own bool is).
- * Nothing is kept between calls and nothing is allocated: the program owns the heads and the rooms.
+ * Nothing is kept between calls and nothing is allocated: the program owns the records, the list and the rooms.
  *
  * ROOMS, all zeros at first, of exactly these lengths (another length is answer 1, but for a reader's rooms when they are lent):
  *   unsent    as many numbers as the reader's cap, 1 to SINTEMUNO_MOST_UNSENT
@@ -22,8 +22,8 @@
  * held (`unsent_count`, `gap_count`, `frag_count`), one place more to notify, to insert a gap or to ask for fragments, as many more as the
  * set has bits (at most 256) for an ACKNACK, 64 words for each sample lent, and never more than the whole room; else answer 1. What isn't
  * lent is zero and stays so. This holds for the calls on one reader and for the steps alike.
- * A head comes back with the answer: keep it, and give it to the next call. The flow record and the list are changed in place, and so are the
- * heads of all readers where a write is lent them side by side.
+ * A proxy comes back with the answer: keep it, and give it to the next call. The flow record and the list are changed in place, and so are the
+ * proxies of all readers where a write is lent them side by side.
  */
 #ifndef SINTEMUNO_H
 #define SINTEMUNO_H
@@ -76,15 +76,16 @@ enum {
 /* ---- numbers: two types, so that one can't be given for the other ---- */
 typedef struct { int64_t n; } sintemuno_sequence_number;
 typedef struct { uint32_t n; } sintemuno_fragment_number;
-typedef struct { uint32_t number; } sintemuno_answer;
-typedef struct { uint64_t from; } sintemuno_cursor; /* {0} is the start; a question hands the next one back */
+typedef struct { uint32_t number; uint32_t place; } sintemuno_answer; /* place: of what the number is about, where a number has one; 0 in every answer of today */
+typedef struct { uint64_t from; } sintemuno_cursor; /* among sample numbers: {0} is the start; a question hands the next one back */
+typedef struct { uint64_t from; } sintemuno_fragment_cursor; /* the same among fragments */
 
 /* A set as RTPS writes it. Bit i (from 0) is the bit of worth 2^(31 - i mod 32) in word i div 32; it stands for base + i. Bits at or past the count
  * are ignored. */
 typedef struct { sintemuno_sequence_number base; uint32_t count; uint32_t words[8]; } sintemuno_set;
 typedef struct { sintemuno_fragment_number base; uint32_t count; uint32_t words[8]; } sintemuno_fragment_set;
 
-/* ---- heads ---- */
+/* ---- records ---- */
 typedef struct {
     sintemuno_sequence_number all_acked_before;
     size_t unsent_cap;
@@ -123,7 +124,7 @@ typedef struct { uint64_t id; sintemuno_sequence_number acked; } sintemuno_acked
 typedef struct { sintemuno_answer answer; bool yes; } sintemuno_told;
 typedef struct { sintemuno_answer answer; sintemuno_sequence_number number; } sintemuno_numbered;
 typedef struct { sintemuno_answer answer; sintemuno_sequence_number number; sintemuno_cursor cursor; } sintemuno_next_number;
-typedef struct { sintemuno_answer answer; sintemuno_fragment_number number; sintemuno_cursor cursor; } sintemuno_next_fragment;
+typedef struct { sintemuno_answer answer; sintemuno_fragment_number number; sintemuno_fragment_cursor cursor; } sintemuno_next_fragment;
 typedef struct { sintemuno_answer answer; sintemuno_reader proxy; } sintemuno_changed;
 typedef struct { sintemuno_answer answer; size_t count; sintemuno_reader proxy; } sintemuno_taken;
 typedef struct { sintemuno_answer answer; size_t left_out; sintemuno_reader proxy; } sintemuno_ack_nacked;
@@ -131,7 +132,7 @@ typedef struct {
     sintemuno_answer answer;
     sintemuno_sequence_number sample;
     sintemuno_fragment_number fragment;
-    sintemuno_cursor cursor;
+    sintemuno_fragment_cursor cursor;
 } sintemuno_next_frag_requested;
 typedef struct { sintemuno_answer answer; size_t count; } sintemuno_listed;
 typedef struct { sintemuno_answer answer; sintemuno_set set; } sintemuno_written_numbers;
@@ -150,8 +151,8 @@ _Static_assert(sizeof(size_t) == 8 && sizeof(bool) == 1, "Sintemuno is for x86-6
 _Static_assert(sizeof(sintemuno_set) == 48 && sizeof(sintemuno_fragment_set) == 40, "a set");
 _Static_assert(sizeof(sintemuno_reader) == 48 && sizeof(sintemuno_reader_head) == 24, "a reader and its head");
 _Static_assert(sizeof(sintemuno_writer) == 80 && offsetof(sintemuno_writer, limits) == 40, "a writer");
-_Static_assert(sizeof(sintemuno_told) == 8 && sizeof(sintemuno_sent) == 72, "answers");
-_Static_assert(sizeof(sintemuno_sent_many) == 64 && sizeof(sintemuno_ack_told) == 64, "answers of the steps");
+_Static_assert(sizeof(sintemuno_answer) == 8 && sizeof(sintemuno_told) == 12 && sizeof(sintemuno_sent) == 72, "answers");
+_Static_assert(sizeof(sintemuno_sent_many) == 64 && sizeof(sintemuno_ack_told) == 72, "answers of the steps");
 #endif
 
 /* ==== one reader ==== */
@@ -191,7 +192,7 @@ sintemuno_changed sintemuno_reader_mark_frags_requested(sintemuno_reader proxy, 
 sintemuno_changed sintemuno_reader_mark_frag_sent(sintemuno_reader proxy, uint64_t *samples, size_t samples_len, uint64_t *words, size_t words_len, sintemuno_sequence_number number, sintemuno_fragment_number fragment);
 
 /* The smallest requested fragment at or after the cursor, of the smallest sample held, and the cursor past it. 1, 14. */
-sintemuno_next_frag_requested sintemuno_reader_next_frag_requested(sintemuno_reader proxy, const uint64_t *samples, size_t samples_len, const uint64_t *words, size_t words_len, sintemuno_cursor at);
+sintemuno_next_frag_requested sintemuno_reader_next_frag_requested(sintemuno_reader proxy, const uint64_t *samples, size_t samples_len, const uint64_t *words, size_t words_len, sintemuno_fragment_cursor at);
 
 /* Whether any fragment is asked for. 1. */
 sintemuno_told sintemuno_reader_repair_frags_requested(sintemuno_reader proxy, const uint64_t *samples, size_t samples_len, const uint64_t *words, size_t words_len);
@@ -208,7 +209,7 @@ sintemuno_listed sintemuno_fragment_set_list_members(sintemuno_fragment_set set,
 
 /* The smallest member at or after the cursor, and the cursor past it. 3; 2 for a negative base; 14. */
 sintemuno_next_number sintemuno_set_next_member(sintemuno_set set, sintemuno_cursor at);
-sintemuno_next_fragment sintemuno_fragment_set_next_member(sintemuno_fragment_set set, sintemuno_cursor at);
+sintemuno_next_fragment sintemuno_fragment_set_next_member(sintemuno_fragment_set set, sintemuno_fragment_cursor at);
 
 /* ==== the send buffer ==== */
 
@@ -277,7 +278,7 @@ sintemuno_ack_told sintemuno_take_ack_nack(sintemuno_reader_head *list, size_t l
 sintemuno_changed sintemuno_take_nack_frag(const sintemuno_reader_head *list, size_t list_len, sintemuno_reader proxy, uint64_t *samples, size_t samples_len, uint64_t *words, size_t words_len, uint64_t id, sintemuno_sequence_number number, sintemuno_fragment_set set);
 
 /* A write that tells every reader: as sintemuno_writer_admit, and the number joins each reader's unsent numbers; above its cap the smallest
- * go. The heads stand side by side in `proxies`, 0 to SINTEMUNO_MOST_READERS of them; one of zeros is a free place, and isn't told. Their
+ * go. The readers stand side by side in `proxies`, 0 to SINTEMUNO_MOST_READERS of them; one of zeros is a free place, and isn't told. Their
  * unsent rooms stand side by side in `unsent`, in stretches of unsent_len / proxies_len numbers, each room at the start of its stretch. Of a
  * stretch, unsent_count + 1 numbers are looked at, but no more than the cap; what lies past them stays as it is. 1, also where a reader isn't
  * coherent or its stretch has no place for one more below its cap; 4, 5, 6, 7. */

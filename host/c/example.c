@@ -59,7 +59,7 @@ static void pieces(void) {
     printf("pieces %u\n", c.answer.number);
     line = c.proxy;
     for (;;) {
-        sintemuno_next_frag_requested next = sintemuno_reader_next_frag_requested(line, samples, SINTEMUNO_FRAG_SAMPLES, words, SINTEMUNO_FRAG_WORDS, (sintemuno_cursor){0});
+        sintemuno_next_frag_requested next = sintemuno_reader_next_frag_requested(line, samples, SINTEMUNO_FRAG_SAMPLES, words, SINTEMUNO_FRAG_WORDS, (sintemuno_fragment_cursor){0});
         if (next.answer.number != SINTEMUNO_DONE)
             return;
         printf("piece %lld/%u\n", (long long)next.sample.n, next.fragment.n);

@@ -17,12 +17,12 @@ use Rattle.number_sets.specs.declared.sequence_number_set.SequenceNumberSet.{Se
 use Rattle.number_sets.specs.declared.sequence_number_set.Listed.{Listed}
 use Rattle.number_sets.specs.declared.sequence_number_set.NextRank.{NextRank}
 use Rattle.number_sets.specs.Bits.{members}
-use Rattle.number_sets.specs.Calls.{sequenceSet, cutSet, joinedSet, sequenceRows, setRows, listed, allListed}
+use Rattle.number_sets.specs.Calls.{sequenceSet, cutSet, joinedSet, sequenceRows, setRows, membersListed, allListed}
 use Rattle.number_sets.proofs.Meaning.{span-window}
 use Rattle.rising.specs.Runs.{over, inRoom, placeOf, cutOut, openedWithin, filled}
 use Rattle.rising.proofs.Rooms.{drop-take, as-well, room-same}
 use Rattle.rising.proofs.Inserts.{place-le}
-use Rattle.joined_runs.specs.Joined.{replaced, grown, endIn, lying, withMembers, asked, firstAsked, laidIn, joinedIn, resized, Within, Listable}
+use Rattle.joined_runs.specs.Joined.{replaced, grown, endIn, lying, withMembers, askedBetween, firstAsked, laidIn, joinedIn, resized, Within, Listable}
 
 -- RESIZED: by a cut, or by an opening
 module _ (p q count n : ℕ) (a : List ℕ) (w : Within p q count a) where
@@ -130,11 +130,11 @@ module _ (p q count : ℕ) (a : List ℕ) (set : SequenceNumberSet) (w : Within 
       e′ = omega arith
 
   -- the listing isn't refused
-  listing : (r : Listed) (x o : List ℕ) → Gives1 r x (listed (sequenceRows set) N o) → x ≡ filled N o
+  listing : (r : Listed) (x o : List ℕ) → Gives1 r x (membersListed (sequenceRows set) N o) → x ≡ filled N o
   listing r x o g =
-      let rows : listed (sequenceRows set) N o ≡ allListed N o =
-      ap (λ (b : Bool). listed (setRows b (negative (set .base))) N o) (le-ltb 256 (set .count) (s .bits))
-      ∙ ap (λ (b : Bool). listed (setRows false b) N o) (s .base) in
+      let rows : membersListed (sequenceRows set) N o ≡ allListed N o =
+      ap (λ (b : Bool). membersListed (setRows b (negative (set .base))) N o) (le-ltb 256 (set .count) (s .bits))
+      ∙ ap (λ (b : Bool). membersListed (setRows false b) N o) (s .base) in
       g .first ∙ ap (λ (y : Left1 Listed (List ℕ)). y .first) rows
 
   module _ (n g : ℕ) (v : List ℕ) (e : n ≡ length N) (k : Gives1 g v (inRoom (resized (length a) p q n) count a)) where
@@ -163,7 +163,7 @@ module _ (p q count : ℕ) (a : List ℕ) (set : SequenceNumberSet) (w : Within 
         let x : max count (length R) ≡ length a = omega (arith, w .fits) in
         rw (z, x) (done a (length a) (omega arith))
 
-    pub replaced-room : (r : Listed) (x : List ℕ) → Gives1 r x (listed (sequenceRows set) N (take (length v - p) (drop p v)))
+    pub replaced-room : (r : Listed) (x : List ℕ) → Gives1 r x (membersListed (sequenceRows set) N (take (length v - p) (drop p v)))
         → take p v ++ (x ++ drop (length v - p) (drop p v)) ≡ over a count (smallest (length a) (replaced p q N l))
     replaced-room r x y =
         let lv = resized-long in
@@ -252,9 +252,9 @@ module _ (set : SequenceNumberSet) (lo hi count : ℕ) (a : List ℕ) (next : Ne
     module _ (these : SequenceNumberSet) (ea : these ≡ cutSet set lo hi) where
       pub some-listable : Listable these
       some-listable =
-          let x = neither (ltb 256 (set .count)) (negative (set .base) || empty (asked set lo hi)) some-joins in
+          let x = neither (ltb 256 (set .count)) (negative (set .base) || empty (askedBetween set lo hi)) some-joins in
           subst Listable (sym ea)
-          (record { bits = ltb-false 256 (set .count) (x .0); base = neither (negative (set .base)) (empty (asked set lo hi)) (x .1) .0 })
+          (record { bits = ltb-false 256 (set .count) (x .0); base = neither (negative (set .base)) (empty (askedBetween set lo hi)) (x .1) .0 })
 
       pub joined-done : (r : ℕ) (u : List ℕ) → Gives1 r u (left-by (next .rank) these) → Gives1 r u (joinedIn set lo hi count a)
       joined-done r u g =

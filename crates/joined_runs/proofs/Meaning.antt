@@ -24,7 +24,7 @@ use Rattle.rising.specs.Runs.{placeOf, roomOf, over}
 use Rattle.rising.proofs.Rooms.{drop-take, changed}
 use Rattle.rising.proofs.Inserts.{place-mono, place-le}
 use Rattle.rising.proofs.Meaning.{RunIs, in-room, room-is, from-only, before-only}
-use Rattle.joined_runs.specs.Joined.{replaced, grown, endIn, withMembers, asked, firstAsked, joinedIn, laidIn}
+use Rattle.joined_runs.specs.Joined.{replaced, grown, endIn, withMembers, askedBetween, firstAsked, joinedIn, laidIn}
 use Rattle.joined_runs.proofs.Same.{within-same}
 
 -- the place of the larger of two numbers, from the place of the smaller on
@@ -46,7 +46,7 @@ swap false false true z = refl
 swap false false false z = refl
 
 -- the members from lo through hi that are asked for lie in the set's bits
-asked-member : (set : SequenceNumberSet) (lo hi n : ℕ) → has (asked set lo hi) n ≡ true → (lo ≤ n) × (rankOf (set .base) ≤ n) × (n < rankOf (set .base) + set .count)
+asked-member : (set : SequenceNumberSet) (lo hi n : ℕ) → has (askedBetween set lo hi) n ≡ true → (lo ≤ n) × (rankOf (set .base) ≤ n) × (n < rankOf (set .base) + set .count)
 asked-member set lo hi n e =
     let t = sym (has-between lo hi (members (sequenceSet set)) n) ∙ e in
     let w = and-left (leb lo n && leb n hi) (has (members (sequenceSet set)) n) t in
@@ -54,7 +54,7 @@ asked-member set lo hi n e =
     (leb-true lo n (and-left (leb lo n) (leb n hi) w), omega (arith, m .1), omega (arith, m .1, m .2))
 
 module _ (l : List ℕ) (rises : From 1 l) (set : SequenceNumberSet) (lo hi : ℕ) (bits : set .count ≤ 256) (low : 1 ≤ lo)
-    (first : ℕ) (is : has (asked set lo hi) first ≡ true) (A-from : From first (asked set lo hi)) where
+    (first : ℕ) (is : has (askedBetween set lo hi) first ≡ true) (A-from : From first (askedBetween set lo hi)) where
   abbrev end : ℕ
   end = rankOf (set .base) + set .count
 
@@ -71,7 +71,7 @@ module _ (l : List ℕ) (rises : From 1 l) (set : SequenceNumberSet) (lo hi : �
   Y = take (q - p) (drop p l)
 
   abbrev A : List ℕ
-  A = asked set lo hi
+  A = askedBetween set lo hi
 
   abbrev N : List ℕ
   N = union Y A
@@ -176,14 +176,14 @@ module _ (l : List ℕ) (rises : From 1 l) (set : SequenceNumberSet) (lo hi : �
 -- THE LAW
 module _ (count : ℕ) (room : List ℕ) (run : RunIs 0 count room) (set : SequenceNumberSet) (lo hi : ℕ) (bits : set .count ≤ 256) (base : negative (set .base) ≡ false) (low : 1 ≤ lo) where
   abbrev all : List ℕ
-  all = union (asked set lo hi) (take count room)
+  all = union (askedBetween set lo hi) (take count room)
 
   long : length (take count room) ≡ count
   long = length-take-le count room (run .fits)
 
   -- nothing is asked for
   none : firstAsked set lo hi .none ≡ true → all ≡ take count room
-  none e = ap (λ (x : List ℕ). union x (take count room)) (nil (asked set lo hi) (rw (le-ltb 256 (set .count) bits, base) at e))
+  none e = ap (λ (x : List ℕ). union x (take count room)) (nil (askedBetween set lo hi) (rw (le-ltb 256 (set .count) bits, base) at e))
     where
       nil : (x : List ℕ) → empty x ≡ true → x ≡ []
       nil [] f = refl
@@ -192,7 +192,7 @@ module _ (count : ℕ) (room : List ℕ) (run : RunIs 0 count room) (set : Seque
   -- something is: the first of it is the smallest
   asked-run : firstAsked set lo hi .none ≡ false → withMembers (firstAsked set lo hi .rank) (cutSet set lo hi) (take count room) ≡ all
   asked-run e =
-      let f = head (asked set lo hi) (From-only (rankOf (set .base)) (λ n. leb lo n && leb n hi) (members (sequenceSet set)) (members-rise (sequenceSet set))) (rw (le-ltb 256 (set .count) bits, base) at e) in
+      let f = head (askedBetween set lo hi) (From-only (rankOf (set .base)) (λ n. leb lo n && leb n hi) (members (sequenceSet set)) (members-rise (sequenceSet set))) (rw (le-ltb 256 (set .count) bits, base) at e) in
       with-members (take count room) (run .rises .from) set lo hi bits low (firstAsked set lo hi .rank) (f .0) (f .1)
     where
       head : (x : List ℕ) → From (rankOf (set .base)) x → empty x ≡ false → (has x (firstOr 0 x) ≡ true) × From (firstOr 0 x) x

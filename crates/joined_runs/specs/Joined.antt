@@ -7,6 +7,7 @@ use mathlib.Core.List.{List, _++_}
 use lib.Dec.{leb, ltb, eqb}
 use lib.ListN.{length, take, drop, replicate}
 use Rattle.sets.specs.Sets.{between, smallest, empty, firstOr}
+use Rattle.numbers.specs.Capacities.{mostBits}
 use Rattle.numbers.specs.Number.{rankOf, negative}
 use Rattle.numbers.specs.Promise.{Left1}
 use Rattle.rising.specs.Runs.{placeOf, over}
@@ -35,11 +36,11 @@ abbrev pub withMembers : ℕ → SequenceNumberSet → List ℕ → List ℕ
 withMembers first s l = grown (placeOf first l) (endIn first s l) (members (sequenceSet (joinedSet s (lying first s l)))) l
 
 -- the members of a set from lo through hi, and the first of them. None joins from a set that has more than 256 bits or a negative base
-abbrev pub asked : SequenceNumberSet → ℕ → ℕ → List ℕ
-asked s lo hi = between lo hi (members (sequenceSet s))
+abbrev pub askedBetween : SequenceNumberSet → ℕ → ℕ → List ℕ
+askedBetween s lo hi = between lo hi (members (sequenceSet s))
 
 abbrev pub firstAsked : SequenceNumberSet → ℕ → ℕ → NextRank
-firstAsked s lo hi = record { none = ltb 256 (s .count) || (negative (s .base) || empty (asked s lo hi)); rank = firstOr 0 (asked s lo hi) }
+firstAsked s lo hi = record { none = ltb mostBits (s .count) || (negative (s .base) || empty (askedBetween s lo hi)); rank = firstOr 0 (askedBetween s lo hi) }
 
 -- a run l in a room a in which c numbers stood, cut to the room; and how many there are uncut
 abbrev pub laidIn : ℕ → List ℕ → List ℕ → Left1 ℕ (List ℕ)
@@ -64,5 +65,5 @@ pub record Within (p q count : ℕ) (room : List ℕ) : Type 0 where
   pub fits : count ≤ length room
 
 pub record Listable (set : SequenceNumberSet) : Type 0 where
-  pub bits : set .count ≤ 256
+  pub bits : set .count ≤ mostBits
   pub base : negative (set .base) ≡ false

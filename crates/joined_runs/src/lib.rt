@@ -18,7 +18,7 @@ fn first_asked(set: SequenceNumberSet, lo: u64, hi: u64) -> NextRank
 {
     let negative = set.base.is_negative();
     let next = set.next_rank(lo, hi);
-    let none = (256 < set.count) | (negative | next.none);
+    let none = (SequenceNumberSet::MOST_BITS < set.count) | (negative | next.none);
     let rank = next.rank;
     NextRank { none, rank }
 }

@@ -12,7 +12,7 @@ use native.Mathlib.Nat.{div-one, div-self, div-eq-of-lt, div-eq-of-lt-le, mul-on
 use borrow.Author.Tests.{eqb-true, eqb-false, eq-eqb, ne-eqb, ltb-true, ltb-false, leb-true, leb-false, le-leb, lt-leb, lt-ltb, le-ltb}
 use Rattle.sets.proofs.Bools.{decide, and-no}
 use Rattle.number_sets.specs.Bits.{bitOf}
-use Rattle.number_sets.specs.Words.{Kept}
+use Rattle.number_sets.specs.Words.{BitsKept}
 
 -- the digit of worth 2 ^ e
 abbrev pub digit : ℕ → ℕ → Bool
@@ -116,7 +116,7 @@ module _ (w a v : ℕ) (h : a < 32) (is : v ≡ (w * 2 ^ a) % 2 ^ 32) where
         ap (bitOf w) e ∙ sym (there (i - a) (omega (arith, lead-in))) ∙ digit-over v (31 - (i - a)) (suc (top .0)) (top .3) (omega (arith, top .1, lead-in))
 
 -- BITS KEPT
-pub kept-none : (w a e : ℕ) → e ≤ a → Kept w a e 0
+pub kept-none : (w a e : ℕ) → e ≤ a → BitsKept w a e 0
 kept-none w a e h = record { small = pow-pos 32; bits = λ i k. digit-zero (31 - i) ∙ sym (none i) }
   where
     none : (i : ℕ) → ((leb a i && ltb i e) && bitOf w i) ≡ false
@@ -150,7 +150,7 @@ module _ (w a e : ℕ) (h : a < e) (k : e ≤ 32) where
           last (inl p) = digit-low w (31 - i) (32 - a) (omega (arith, leb-true a i p)) ∙ sym (ap (λ (t : Bool). (t && true) && bitOf w i) p)
           last (inr p) = digit-over (w % 2 ^ (32 - a)) (31 - i) (32 - a) (low-small w a) (omega (arith, leb-false a i p)) ∙ sym (ap (λ (t : Bool). (t && true) && bitOf w i) p)
 
-  pub kept-some : Kept w a e (((w * 2 ^ a) % 2 ^ 32 / 2 ^ a / 2 ^ (32 - e) * 2 ^ (32 - e)) % 2 ^ 32)
+  pub kept-some : BitsKept w a e (((w * 2 ^ a) % 2 ^ 32 / 2 ^ a / 2 ^ (32 - e) * 2 ^ (32 - e)) % 2 ^ 32)
   kept-some =
       let s : w % 2 ^ (32 - a) < 2 ^ 32 = lt-of-lt-of-le (low-small w a) (pow-mono {i = 32 - a} {j = 32} (omega arith)) in
       let r : ((w * 2 ^ a) % 2 ^ 32 / 2 ^ a / 2 ^ (32 - e) * 2 ^ (32 - e)) % 2 ^ 32 ≡ w % 2 ^ (32 - a) / 2 ^ (32 - e) * 2 ^ (32 - e) =

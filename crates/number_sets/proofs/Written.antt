@@ -9,9 +9,8 @@ use Rattle.sets.specs.Sets.{has, union}
 use Rattle.sets.proofs.Bools.{or-no}
 use Rattle.sets.proofs.Has.{has-union}
 use Rattle.numbers.specs.declared.sequence_number.SequenceNumber.{SequenceNumber}
-use Rattle.numbers.specs.declared.answer.Rows.{Rows}
+use Rattle.numbers.specs.Refusals.{Rows, answerOf, isDone, unless}
 use Rattle.numbers.specs.Number.{rankOf}
-use Rattle.numbers.specs.Refusals.{answerOf, isDone, unless}
 use Rattle.numbers.proofs.Refused.{done-is, is-done}
 use Rattle.number_sets.specs.declared.sequence_number_set.WrittenNumbers.{WrittenNumbers}
 use Rattle.number_sets.specs.declared.sequence_number_set.SequenceNumberSet.{SequenceNumberSet}
@@ -33,7 +32,7 @@ pub made-answer : (r : Rows) (s : SequenceNumberSet) → unless r notWritten (wr
 made-answer r s = go (isDone (answerOf r)) refl
   where
     go : (t : Bool) → isDone (answerOf r) ≡ t → (cond t (written s) (notWritten (answerOf r))) .answer ≡ answerOf r
-    go true e = sym (done-is (answerOf r) (eqb-true (answerOf r .number) 0 e))
+    go true e = sym (done-is r (answerOf r) refl (eqb-true (answerOf r .number) 0 e))
     go false e = refl
 
 pub made-set : (r : Rows) (s : SequenceNumberSet) → answerOf r .number ≡ 0 → unless r notWritten (written s) .set ≡ s

@@ -1,21 +1,22 @@
 -- What each call on a set answers. Assumes nothing.
 use Prim.Native.Nat.{ℕ, suc, _+_, _-_, _≤_, _<_, _^_, max, min}
-use mathlib.Core.Path.{_≡_}
+use mathlib.Core.Path.{_≡_, refl}
 use mathlib.Core.Bool.{Bool, true, false, cond, _||_}
 use mathlib.Core.List.{List, [], _∷_}
 use lib.Dec.{leb, ltb}
 use lib.IntN.{pos}
 use lib.ListN.{length, replicate}
 use Rattle.sets.specs.Sets.{has, union, between, empty, firstOr}
+use Rattle.numbers.specs.Capacities.{mostBits, topAcked}
 use Rattle.numbers.specs.declared.answer.Answer.{Answer}
-use Rattle.numbers.specs.declared.answer.Rows.{Rows}
+use Rattle.numbers.specs.Refusals.{Rows, row, done, unless}
 use Rattle.numbers.specs.declared.cursor.Cursor.{Cursor}
+use Rattle.numbers.specs.declared.cursor.FragmentCursor.{FragmentCursor}
 use Rattle.numbers.specs.declared.cursor.NextNumber.{NextNumber}
 use Rattle.numbers.specs.declared.cursor.NextFragment.{NextFragment}
 use Rattle.numbers.specs.declared.sequence_number.SequenceNumber.{SequenceNumber}
 use Rattle.numbers.specs.declared.fragment_number.FragmentNumber.{FragmentNumber}
-use Rattle.numbers.specs.Number.{rankOf, negative, numberAt, fragmentAt}
-use Rattle.numbers.specs.Refusals.{done, unless}
+use Rattle.numbers.specs.Number.{rankOf, negative, pastBits, numberAt, fragmentAt}
 use Rattle.numbers.specs.Cursor.{nextOfThese, nextFragmentOfThese}
 use Rattle.numbers.specs.Promise.{Left1}
 use Rattle.number_sets.specs.declared.sequence_number_set.SequenceNumberSet.{SequenceNumberSet}
@@ -37,30 +38,14 @@ fragmentSet s = record { base = s .base .0; count = s .count; words = s .words }
 
 -- the rows that a set can meet: "3 a set has more than 256 bits", "2 a number is out of its range"
 abbrev pub setRows : Bool → Bool → Rows
-setRows bits range =
-    record {
-      limit = false;
-      incoherent = false;
-      bits = bits;
-      range = range;
-      reader = false;
-      ahead = false;
-      payload = false;
-      «used_up» = false;
-      «would_block» = false;
-      «store_full» = false;
-      «readers_full» = false;
-      «gaps_full» = false;
-      «frags_full» = false;
-      nothing = false;
-    }
+setRows bits range = row 3 refl bits ∷ row 2 refl range ∷ []
 
 -- "A set is a base, a bit count 0 to 256"; "A negative base is refused with 2"
 abbrev pub sequenceRows : SequenceNumberSet → Rows
-sequenceRows s = setRows (ltb 256 (s .count)) (negative (s .base))
+sequenceRows s = setRows (ltb mostBits (s .count)) (negative (s .base))
 
 abbrev pub fragmentRows : FragmentNumberSet → Rows
-fragmentRows s = setRows (ltb 256 (s .count)) false
+fragmentRows s = setRows (ltb mostBits (s .count)) false
 
 -- the members l in a room: how many there are, and as many as fit
 abbrev pub notListed : List ℕ → Answer → Left1 Listed (List ℕ)
@@ -69,13 +54,13 @@ notListed room a = record { result = record { answer = a; count = 0 }; first = r
 abbrev pub allListed : List ℕ → List ℕ → Left1 Listed (List ℕ)
 allListed l room = record { result = record { answer = done; count = length l }; first = filled l room }
 
-abbrev pub listed : Rows → List ℕ → List ℕ → Left1 Listed (List ℕ)
-listed r l room = unless r (notListed room) (allListed l room)
+abbrev pub membersListed : Rows → List ℕ → List ℕ → Left1 Listed (List ℕ)
+membersListed r l room = unless r (notListed room) (allListed l room)
 
 -- the numbers that a set is asked to list: its base is that of a signed number, and its bits are those of eight words
 pub record Readable (base count : ℕ) : Type 0 where
   pub low : base < 2 ^ 63
-  pub few : count ≤ 256
+  pub few : count ≤ mostBits
 
 -- the smallest member from c through top
 abbrev pub nextRank : NumberSet → ℕ → ℕ → NextRank
@@ -83,10 +68,10 @@ nextRank z c top = record { none = empty (between c top (members z)); rank = fir
 
 -- the signed 64-bit numbers reach to 2^63−1: a member past that has no sequence number
 abbrev pub nextMember : SequenceNumberSet → Cursor → NextNumber
-nextMember s at = nextOfThese (sequenceRows s) (between (at .from) 9223372036854775807 (members (sequenceSet s)))
+nextMember s at = nextOfThese (sequenceRows s) (between (at .from) topAcked (members (sequenceSet s)))
 
 -- the unsigned 32-bit numbers reach to 2^32−1
-abbrev pub nextFragmentMember : FragmentNumberSet → Cursor → NextFragment
+abbrev pub nextFragmentMember : FragmentNumberSet → FragmentCursor → NextFragment
 nextFragmentMember s at = nextFragmentOfThese (fragmentRows s) (between (at .from) 4294967295 (members (fragmentSet s)))
 
 -- the members from lo through hi alone
@@ -106,7 +91,7 @@ joinedSet s ns =
 abbrev pub emptyAt : SequenceNumber → SequenceNumberSet
 emptyAt b = record { base = b; count = 0; words = replicate 8 0 }
 
--- whether any of the numbers is below b; whether any is b+256 or more
+-- whether any of the numbers is below b; whether any is b or more
 abbrev pub someBelow : ℕ → List ℕ → Bool
 someBelow b [] = false
 someBelow b (n ∷ ns) = ltb n b || someBelow b ns
@@ -115,10 +100,10 @@ abbrev pub someFrom : ℕ → List ℕ → Bool
 someFrom b [] = false
 someFrom b (n ∷ ns) = leb b n || someFrom b ns
 
-abbrev pub outsideOf : ℕ → List ℕ → Outside
-outsideOf b ns = record { below = someBelow b ns; above = someFrom (b + 256) ns }
+abbrev pub outsideOf : ℕ → ℕ → List ℕ → Outside
+outsideOf b end ns = record { below = someBelow b ns; above = someFrom end ns }
 
--- the set written for given numbers: 3 where one lies past the 256 bits, 2 where one lies below the base
+-- the set written for given numbers: 3 where one lies past the 256 bits from the base, a negative one too; 2 where one lies below the base, or it is negative
 abbrev pub notWritten : Answer → WrittenNumbers
 notWritten a = record { answer = a; set = emptyAt (numberAt 0) }
 
@@ -126,7 +111,7 @@ abbrev pub written : SequenceNumberSet → WrittenNumbers
 written s = record { answer = done; set = s }
 
 abbrev pub writtenRows : SequenceNumber → List ℕ → Rows
-writtenRows b ns = setRows (someFrom (rankOf b + 256) ns) (negative b || someBelow (rankOf b) ns)
+writtenRows b ns = setRows (someFrom (pastBits b) ns) (negative b || someBelow (rankOf b) ns)
 
 abbrev pub theseNumbers : SequenceNumber → List ℕ → SequenceNumberSet
 theseNumbers b ns = record { base = b; count = span (rankOf b) (inWindow (rankOf b) ns); words = wordsFor (rankOf b) (inWindow (rankOf b) ns) }
@@ -155,7 +140,7 @@ abbrev pub writtenFragments : FragmentNumberSet → WrittenFragments
 writtenFragments s = record { answer = done; set = s }
 
 abbrev pub writtenFragmentRows : FragmentNumber → List ℕ → Rows
-writtenFragmentRows b ns = setRows (someFrom (b .0 + 256) ns) (someBelow (b .0) ns)
+writtenFragmentRows b ns = setRows (someFrom (b .0 + mostBits) ns) (someBelow (b .0) ns)
 
 abbrev pub ofFragments : FragmentNumber → List ℕ → WrittenFragments
 ofFragments b ns = unless (writtenFragmentRows b ns) notWrittenFragments (writtenFragments (theseFragments b ns))

@@ -7,15 +7,15 @@ ghost use lib.ListN.{length};
 ghost use Rattle.sets.specs.Sets.{only, empty};
 ghost use Rattle.numbers.specs.Promise.{Gives1};
 ghost use Rattle.number_sets.specs.Bits.{members};
-ghost use Rattle.number_sets.specs.Calls.{fragmentSet, fragmentRows, listed, nextRank, nextFragmentMember, ofFragments, wideNumber, wideSet};
+ghost use Rattle.number_sets.specs.Calls.{fragmentSet, fragmentRows, membersListed, nextRank, nextFragmentMember, ofFragments, wideNumber, wideSet};
 use crate::sequence_number_set::Listed;
 use crate::sequence_number_set::NextRank;
 use crate::sequence_number_set::SequenceNumberSet;
+use crate::sequence_number_set::set_answer;
 use numbers::Answer;
-use numbers::Cursor;
+use numbers::FragmentCursor;
 use numbers::FragmentNumber;
 use numbers::NextFragment;
-use numbers::Rows;
 use numbers::SequenceNumber;
 
 #[repr(C)]
@@ -61,7 +61,7 @@ impl FragmentNumberSet {
 
     // The members, rising, as far as the room holds them; how many they are in all.
     pub fn list_members(self, out: &mut [u64]) -> Listed
-        ensures { λ r. ⌜ Gives1 r (now (out .exit)) (listed (fragmentRows self) (members (fragmentSet self)) (now (out .entry))) ⌝ }
+        ensures { λ r. ⌜ Gives1 r (now (out .exit)) (membersListed (fragmentRows self) (members (fragmentSet self)) (now (out .entry))) ⌝ }
     {
         self.widened().list_members(out)
     }
@@ -74,15 +74,15 @@ impl FragmentNumberSet {
     }
 
     // The smallest member at or after the cursor, and the cursor past it.
-    pub fn next_member(self, at: Cursor) -> NextFragment
+    pub fn next_member(self, at: FragmentCursor) -> NextFragment
         ensures { λ r. ⌜ r ≡ nextFragmentMember self at ⌝ }
     {
         let next = self.next_rank(at.from, 4294967295);
         let count = self.count;
-        let mut rows = Rows::none();
-        rows.bits = 256 < count;
-        rows.nothing = next.none;
-        NextFragment::of(rows, next.rank)
+        NextFragment::of(
+            set_answer(SequenceNumberSet::MOST_BITS < count, false, next.none),
+            next.rank,
+        )
     }
 
     // Whether any member is n or more.

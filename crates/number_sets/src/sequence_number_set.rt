@@ -3,15 +3,16 @@ ghost use mathlib.Core.Path.{_≡_};
 ghost use Prim.Native.Nat.{_<_, _^_};
 ghost use lib.ListN.{length};
 ghost use Rattle.numbers.specs.Promise.{Gives1};
+ghost use Rattle.numbers.specs.Refusals.{answerOf};
+ghost use Rattle.numbers.specs.Cursor.{orNone};
 ghost use Rattle.number_sets.specs.Bits.{members, marked};
 ghost use Rattle.rising.specs.Runs.{filled};
-ghost use Rattle.number_sets.specs.Calls.{sequenceSet, sequenceRows, listed, Readable, nextRank, nextMember, cutSet, joinedSet, emptyAt, outsideOf, ofNumbers};
+ghost use Rattle.number_sets.specs.Calls.{sequenceSet, setRows, sequenceRows, membersListed, Readable, nextRank, nextMember, cutSet, joinedSet, emptyAt, outsideOf, ofNumbers};
 use crate::words;
 use crate::words::Bits;
 use numbers::Answer;
 use numbers::Cursor;
 use numbers::NextNumber;
-use numbers::Rows;
 use numbers::SequenceNumber;
 use numbers::arith::smaller;
 
@@ -48,6 +49,16 @@ pub struct Outside {
     pub above: bool,
 }
 
+// The answer of a call on a set: 3, 2, 14 or done.
+pub(crate) fn set_answer(bits: bool, range: bool, none: bool) -> Answer
+    ensures { λ r. ⌜ r ≡ answerOf (orNone (setRows bits range) none) ⌝ }
+{
+    Answer::done()
+        .unless(none, Answer::NOTHING)
+        .unless(range, Answer::RANGE)
+        .unless(bits, Answer::BITS)
+}
+
 // The members of a set, rising, in a room from its start, as far as they fit; how many they are in all.
 fn list_bits(words: &[u32; 8], count: usize, base: u64, out: &mut [u64]) -> usize
     requires { ⌜ Readable base count ⌝ }
@@ -65,11 +76,10 @@ fn list_bits(words: &[u32; 8], count: usize, base: u64, out: &mut [u64]) -> usiz
     k
 }
 
-fn beyond(base: u64, numbers: &[u64]) -> Outside
-    requires { ⌜ base < 2 ^ 63 ⌝ }
-    ensures { λ r. ⌜ r ≡ outsideOf base (now (numbers .entry)) ⌝ }
+// Whether any number is below a set's first, and whether any is at or past its end.
+fn beyond(base: u64, end: u64, numbers: &[u64]) -> Outside
+    ensures { λ r. ⌜ r ≡ outsideOf base end (now (numbers .entry)) ⌝ }
 {
-    let end = base + 256;
     let mut below = false;
     let mut above = false;
     let mut i = 0;
@@ -83,6 +93,11 @@ fn beyond(base: u64, numbers: &[u64]) -> Outside
 }
 
 impl SequenceNumberSet {
+    // The most bits of a set, and so the most members.
+    pub const MOST_BITS: u32 = 256;
+
+    pub const MOST_MEMBERS: usize = 256;
+
     // A set with no member.
     pub fn empty(base: SequenceNumber) -> SequenceNumberSet
         ensures { λ r. ⌜ r ≡ emptyAt base ⌝ }
@@ -94,23 +109,20 @@ impl SequenceNumberSet {
         }
     }
 
-    // The rows that the set meets.
-    fn rows(self) -> Rows
-        ensures { λ r. ⌜ r ≡ sequenceRows self ⌝ }
+    // The answer of a call on the set that found something, or nothing.
+    fn check(self, none: bool) -> Answer
+        ensures { λ r. ⌜ r ≡ answerOf (orNone (sequenceRows self) none) ⌝ }
     {
         let negative = self.base.is_negative();
         let count = self.count;
-        let mut rows = Rows::none();
-        rows.bits = 256 < count;
-        rows.range = negative;
-        rows
+        set_answer(SequenceNumberSet::MOST_BITS < count, negative, none)
     }
 
     // The members, rising, as far as the room holds them; how many they are in all.
     pub fn list_members(self, out: &mut [u64]) -> Listed
-        ensures { λ r. ⌜ Gives1 r (now (out .exit)) (listed (sequenceRows self) (members (sequenceSet self)) (now (out .entry))) ⌝ }
+        ensures { λ r. ⌜ Gives1 r (now (out .exit)) (membersListed (sequenceRows self) (members (sequenceSet self)) (now (out .entry))) ⌝ }
     {
-        let answer = Answer::of(self.rows());
+        let answer = self.check(false);
         if answer.number != 0 {
             return Listed { answer, count: 0 };
         }
@@ -153,10 +165,8 @@ impl SequenceNumberSet {
     pub fn next_member(self, at: Cursor) -> NextNumber
         ensures { λ r. ⌜ r ≡ nextMember self at ⌝ }
     {
-        let next = self.next_rank(at.from, 9223372036854775807);
-        let mut rows = self.rows();
-        rows.nothing = next.none;
-        NextNumber::of(rows, next.rank)
+        let next = self.next_rank(at.from, SequenceNumber::LARGEST);
+        NextNumber::of(self.check(next.none), next.rank)
     }
 
     // How many members there are.
@@ -199,11 +209,8 @@ impl SequenceNumberSet {
         ensures { λ r. ⌜ r ≡ ofNumbers base (now (numbers .entry)) ⌝ }
     {
         let negative = base.is_negative();
-        let out = beyond(base.rank(), numbers);
-        let mut rows = Rows::none();
-        rows.bits = out.above;
-        rows.range = negative | out.below;
-        let answer = Answer::of(rows);
+        let out = beyond(base.rank(), base.past_bits(), numbers);
+        let answer = set_answer(out.above, negative | out.below, false);
         if answer.number != 0 {
             let set = SequenceNumberSet::empty(SequenceNumber(0));
             return WrittenNumbers { answer, set };

@@ -1,15 +1,13 @@
 -- A step is refused or done, and where it is done, so is each of its calls. Assumes nothing.
 use Prim.Native.Nat.{ℕ}
 use mathlib.Core.Path.{_≡_, refl, sym, ap, _∙_}
-use mathlib.Core.Bool.{Bool, true, false, cond, _||_, false≢true}
-use mathlib.Core.List.{List, [], _∷_, map}
-use lib.Dec.{eqb}
+use mathlib.Core.Bool.{Bool, true, false, cond}
+use mathlib.Core.List.{List}
 use borrow.Author.Tests.{eq-eqb, ne-eqb, eqb-true, eqb-false}
-use Rattle.numbers.specs.Refusals.{Row, row, rowsOf, table, firstOf, answerOf, done, isDone, unless}
+use Rattle.numbers.specs.Refusals.{Rows, numbers, answerOf, done, isDone, unless}
 use Rattle.numbers.specs.declared.answer.Answer.{Answer}
-use Rattle.numbers.specs.declared.answer.Rows.{Rows}
-use Rattle.numbers.proofs.Refused.{Clear, clear, done-is, is-done}
-use Rattle.numbers.specs.Answers.{said, numbers, earlier, firstAnswer, inTurn, answered, stepped}
+use Rattle.numbers.proofs.Refused.{done-is, is-done}
+use Rattle.numbers.specs.Answers.{isBefore, earlier, firstAnswer, inTurn, answered, stepped}
 
 -- the outcome, by the answer
 module _ {A : Type 0} (a b : Answer) (q : b ≡ a) (f : Answer → A) (d : A) where
@@ -33,79 +31,49 @@ module _ {A : Type 0} (g : A → Answer) (r : Rows) (f : Answer → A) (d : A) (
   unless-answer = go (isDone (answerOf r)) refl
     where
       go : (t : Bool) → isDone (answerOf r) ≡ t → g (cond t d (f (answerOf r))) ≡ answerOf r
-      go true e = hd ∙ sym (done-is (answerOf r) (eqb-true (answerOf r .number) 0 e))
+      go true e = hd ∙ sym (done-is r (answerOf r) refl (eqb-true (answerOf r .number) 0 e))
       go false e = hf (answerOf r)
 
   pub unless-done : g (unless r f d) .number ≡ 0 → unless r f d ≡ d
   unless-done z = sym (is-done r (answerOf r) refl f d (sym (ap (λ (x : Answer). x .number) unless-answer) ∙ z))
 
 -- WHERE A STEP IS DONE, SO IS EACH OF ITS CALLS
-
--- a number that is none of the rows'
-abbrev Apart : ℕ → List Row → Type 0
-Apart n [] = Unit {0}
-Apart n (r ∷ rs) = (eqb n (r .number) ≡ false) × Apart n rs
-
-apart-0 : (n : ℕ) (rs : List Row) → n ≡ firstOf rs → Apart n rs → n ≡ 0
-apart-0 n [] e p = e
-apart-0 n (r ∷ rs) e p = go (r .holds) e (λ q. apart-0 n rs q (p .1))
+earlier-done : (a b : Answer) → earlier a b .number ≡ 0 → (a .number ≡ 0) × (b .number ≡ 0)
+earlier-done a b z = go (isDone b) refl (isDone a) refl (isBefore numbers (a .number) (b .number)) z
   where
-    go : (t : Bool) → n ≡ cond t (r .number) (firstOf rs) → (n ≡ firstOf rs → n ≡ 0) → n ≡ 0
-    go true q k = absurd (eqb-false n (r .number) (p .0) q)
-    go false q k = k q
+    go : (t : Bool) → isDone b ≡ t → (u : Bool) → isDone a ≡ u → (v : Bool) → cond t a (cond u b (cond v a b)) .number ≡ 0 → (a .number ≡ 0) × (b .number ≡ 0)
+    go true e u d v y = (y, eqb-true (b .number) 0 e)
+    go false e true d v y = absurd (eqb-false (b .number) 0 e y)
+    go false e false d true y = absurd (eqb-false (a .number) 0 d y)
+    go false e false d false y = absurd (eqb-false (b .number) 0 e y)
 
-abbrev pub saidRows : Answer → Answer → Rows
-saidRows a b = rowsOf (map (λ n. row n (said a b n)) numbers)
+pub left-done : (a b : Answer) → earlier a b .number ≡ 0 → a .number ≡ 0
+left-done a b z = earlier-done a b z .0
 
--- a call x with the rows r, that is one of the two
-module _ (a b x : Answer) (r : Rows) (q : x ≡ answerOf r) (one : (n : ℕ) → said a b n ≡ false → eqb (x .number) n ≡ false) where
-  part-done : earlier a b .number ≡ 0 → x .number ≡ 0
-  part-done z =
-      let c : Clear (saidRows a b) = clear (saidRows a b) (earlier a b) refl z in
-      apart-0 (x .number) (table r) (ap (λ (y : Answer). y .number) q) (
-        one 13 (c .limit),
-        (
-          one 1 (c .incoherent),
-          (
-            one 3 (c .bits),
-            (
-              one 2 (c .range),
-              (
-                one 11 (c .reader),
-                (
-                  one 12 (c .ahead),
-                  (
-                    one 4 (c .payload),
-                    (
-                      one 5 (c .used-up),
-                      (one 6 (c .would-block), (one 7 (c .store-full), (one 8 (c .readers-full), (one 9 (c .gaps-full), (one 10 (c .frags-full), (one 14 (c .nothing), tt)))))),
-                    ),
-                  ),
-                ),
-              ),
-            ),
-          ),
-        ),
-      )
+pub right-done : (a b : Answer) → earlier a b .number ≡ 0 → b .number ≡ 0
+right-done a b z = earlier-done a b z .1
 
-pub left-done : (a b : Answer) (r : Rows) → a ≡ answerOf r → earlier a b .number ≡ 0 → a .number ≡ 0
-left-done a b r q z = part-done a b a r q (λ n e. or-first (eqb (a .number) n) (eqb (b .number) n) e) z
-  where
-    or-first : (x y : Bool) → (x || y) ≡ false → x ≡ false
-    or-first true y e = e
-    or-first false y e = refl
+-- which of two is the answer
+module _ (a b : Answer) where
+  abbrev earlierBy : Bool → Bool → Bool → Answer
+  earlierBy t u v = cond t a (cond u b (cond v a b))
 
-pub right-done : (a b : Answer) (r : Rows) → b ≡ answerOf r → earlier a b .number ≡ 0 → b .number ≡ 0
-right-done a b r q z = part-done a b b r q (λ n e. or-second (eqb (a .number) n) (eqb (b .number) n) e) z
-  where
-    or-second : (x y : Bool) → (x || y) ≡ false → y ≡ false
-    or-second true y e = absurd (false≢true (sym e))
-    or-second false y e = e
+  by : {t u v : Bool} → isDone b ≡ t → isDone a ≡ u → isBefore numbers (a .number) (b .number) ≡ v → earlierBy t u v ≡ earlier a b
+  by e d q = sym (λ i. earlierBy (e i) (d i) (q i))
 
--- two that are done; and where two in turn are done, each is
-pub both-done : (a b : Answer) → a .number ≡ 0 → b .number ≡ 0 → a ≡ earlier a b
-both-done a b x y = done-is a x ∙ sym (ap (λ (c : Answer). earlier c b) (done-is a x) ∙ ap (earlier done) (done-is b y))
+  pub first-is : b .number ≡ 0 → a ≡ earlier a b
+  first-is y = by (eq-eqb (b .number) 0 y) refl refl
 
+  pub second-is : (b .number ≡ 0 → ⊥) → a .number ≡ 0 → b ≡ earlier a b
+  second-is y x = by (ne-eqb (b .number) 0 y) (eq-eqb (a .number) 0 x) refl
+
+  pub before-is : (b .number ≡ 0 → ⊥) → (a .number ≡ 0 → ⊥) → {t : Bool} → t ≡ isBefore numbers (a .number) (b .number) → t ≡ true → a ≡ earlier a b
+  before-is y x q e = by (ne-eqb (b .number) 0 y) (ne-eqb (a .number) 0 x) (sym q ∙ e)
+
+  pub after-is : (b .number ≡ 0 → ⊥) → (a .number ≡ 0 → ⊥) → {t : Bool} → t ≡ isBefore numbers (a .number) (b .number) → t ≡ false → b ≡ earlier a b
+  after-is y x q e = by (ne-eqb (b .number) 0 y) (ne-eqb (a .number) 0 x) (sym q ∙ e)
+
+-- where two in turn are done, each is
 pub turn-done : (a b : Answer) → inTurn a b .number ≡ 0 → (a .number ≡ 0) × (b .number ≡ 0)
 turn-done a b z = go (isDone a) refl z
   where

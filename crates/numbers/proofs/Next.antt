@@ -7,14 +7,14 @@ use native.Mathlib.Omega.{arith}
 use lib.Dec.{eqb}
 use borrow.Author.Tests.{ne-eqb}
 use Rattle.sets.specs.Sets.{From, empty, firstOr}
-use Rattle.numbers.specs.Refusals.{row, rowsOf}
+use Rattle.numbers.specs.Refusals.{row}
 use Rattle.numbers.specs.Cursor.{nextNumber}
 
 pub next-same : (bad none none′ : Bool) (n n′ : ℕ) → (bad ≡ false → (none ≡ none′) × (n ≡ n′))
-    → nextNumber (rowsOf (row 1 bad ∷ row 14 none ∷ [])) n ≡ nextNumber (rowsOf (row 1 bad ∷ row 14 none′ ∷ [])) n′
+    → nextNumber (row 1 refl bad ∷ row 14 refl none ∷ []) n ≡ nextNumber (row 1 refl bad ∷ row 14 refl none′ ∷ []) n′
 next-same true none none′ n n′ h = refl
 next-same false none none′ n n′ h =
-    ap (λ (t : Bool). nextNumber (rowsOf (row 1 false ∷ row 14 t ∷ [])) n) (h refl .0) ∙ ap (nextNumber (rowsOf (row 1 false ∷ row 14 none′ ∷ []))) (h refl .1)
+    ap (λ (t : Bool). nextNumber (row 1 refl false ∷ row 14 refl t ∷ []) n) (h refl .0) ∙ ap (nextNumber (row 1 refl false ∷ row 14 refl none′ ∷ [])) (h refl .1)
 
 -- 0 is no member of a set that rises from 1 on: it stands for none
 pub none-is : (l : List ℕ) → From 1 l → eqb (firstOr 0 l) 0 ≡ empty l

@@ -1,78 +1,46 @@
 -- The laws of refusals: a call is refused or done, and one that is done meets no row. Assumes nothing.
 use Prim.Native.Nat.{ℕ}
 use mathlib.Core.Path.{_≡_, refl, sym, ap, subst, _∙_}
-use mathlib.Core.Bool.{Bool, true, false, not, cond, _&&_}
+use mathlib.Core.Bool.{Bool, true, false, not, cond, _&&_, _||_, false≢true}
 use mathlib.Core.List.{List, [], _∷_}
 use lib.Dec.{eqb}
-use borrow.Author.Tests.{eq-eqb, ne-eqb, eqb-false}
+use borrow.Author.Tests.{eq-eqb, ne-eqb, eqb-true, eqb-false}
+use Rattle.sets.specs.Sets.{has}
 use Rattle.numbers.specs.declared.answer.Answer.{Answer}
-use Rattle.numbers.specs.declared.answer.Rows.{Rows}
-use Rattle.numbers.specs.Refusals.{Row, table, firstOf, answerOf, done, isDone, unless}
+use Rattle.numbers.specs.Refusals.{Rows, numbers, holdsIn, firstRow, answerAt, answerOf, done, isDone, unless}
 use Rattle.numbers.specs.Promise.{Left1, Left2, Left3, Gives1, Gives2, Gives3}
 
--- no row of a list holds
-abbrev NoneHolds : List Row → Type 0
-NoneHolds [] = Unit {0}
-NoneHolds (r ∷ rs) = (r .holds ≡ false) × NoneHolds rs
+-- WHAT IS KNOWN OF A CALL THAT IS DONE: no row holds, of whatever number
+abbrev pub Clear : Rows → Type 0
+Clear rs = (n : ℕ) → has numbers n ≡ true → holdsIn n rs ≡ false
 
--- no row has the number 0
-abbrev numbered : List Row → Bool
-numbered [] = true
-numbered (r ∷ rs) = not (eqb (r .number) 0) && numbered rs
+-- no number of a table is 0
+abbrev positive : List ℕ → Bool
+positive [] = true
+positive (n ∷ ns) = not (eqb n 0) && positive ns
 
-none-holds : (rs : List Row) → numbered rs ≡ true → firstOf rs ≡ 0 → NoneHolds rs
-none-holds [] n e = tt
-none-holds (r ∷ rs) n e = go (r .holds) refl (eqb (r .number) 0) refl n e (none-holds rs)
+none-holds : (ns : List ℕ) (rs : Rows) → positive ns ≡ true → firstRow ns rs ≡ 0 → (n : ℕ) → has ns n ≡ true → holdsIn n rs ≡ false
+none-holds [] rs p e n h = absurd (false≢true h)
+none-holds (m ∷ ns) rs p e n h = go (holdsIn m rs) refl (eqb m 0) refl p e (eqb m n) refl h (λ q z k. none-holds ns rs q z n k)
   where
-    go : (t : Bool) → r .holds ≡ t → (z : Bool) → eqb (r .number) 0 ≡ z → (not z && numbered rs) ≡ true → cond t (r .number) (firstOf rs) ≡ 0
-        → (numbered rs ≡ true → firstOf rs ≡ 0 → NoneHolds rs) → (r .holds ≡ false) × NoneHolds rs
-    go false h false z n e k = (h, k n e)
-    go true h false z n e k = absurd (eqb-false (r .number) 0 z e)
-    go t h true z n e k = let o : _≡_ {A = ℕ} 0 1 = cc in absurd (eqb-false 0 1 refl o)
+    go : (t : Bool) → holdsIn m rs ≡ t → (z : Bool) → eqb m 0 ≡ z → (not z && positive ns) ≡ true → cond t m (firstRow ns rs) ≡ 0 → (u : Bool) → eqb m n ≡ u → (u || has ns n) ≡ true
+        → (positive ns ≡ true → firstRow ns rs ≡ 0 → has ns n ≡ true → holdsIn n rs ≡ false) → holdsIn n rs ≡ false
+    go t w true z q e u v h k = absurd (false≢true q)
+    go true w false z q e u v h k = absurd (eqb-false m 0 z e)
+    go false w false z q e true v h k = ap (λ (x : ℕ). holdsIn x rs) (sym (eqb-true m n v)) ∙ w
+    go false w false z q e false v h k = k q e h
 
--- what is known of a call that is done: none of its rows holds
-pub record Clear (r : Rows) : Type 0 where
-  pub limit : r .limit ≡ false
-  pub incoherent : r .incoherent ≡ false
-  pub bits : r .bits ≡ false
-  pub range : r .range ≡ false
-  pub reader : r .reader ≡ false
-  pub ahead : r .ahead ≡ false
-  pub payload : r .payload ≡ false
-  pub used-up : r .«used_up» ≡ false
-  pub would-block : r .«would_block» ≡ false
-  pub store-full : r .«store_full» ≡ false
-  pub readers-full : r .«readers_full» ≡ false
-  pub gaps-full : r .«gaps_full» ≡ false
-  pub frags-full : r .«frags_full» ≡ false
-  pub nothing : r .nothing ≡ false
+pub clear : (rs : Rows) (a : Answer) → a ≡ answerOf rs → a .number ≡ 0 → Clear rs
+clear rs a q e = none-holds numbers rs refl (sym (ap (λ (x : Answer). x .number) q) ∙ e)
 
-pub clear : (r : Rows) (a : Answer) → a ≡ answerOf r → a .number ≡ 0 → Clear r
-clear r a q e =
-    let n = none-holds (table r) refl (sym (ap (λ (x : Answer). x .number) q) ∙ e) in
-    record {
-      limit = n .0;
-      incoherent = n .1 .0;
-      bits = n .1 .1 .0;
-      range = n .1 .1 .1 .0;
-      reader = n .1 .1 .1 .1 .0;
-      ahead = n .1 .1 .1 .1 .1 .0;
-      payload = n .1 .1 .1 .1 .1 .1 .0;
-      used-up = n .1 .1 .1 .1 .1 .1 .1 .0;
-      would-block = n .1 .1 .1 .1 .1 .1 .1 .1 .0;
-      store-full = n .1 .1 .1 .1 .1 .1 .1 .1 .1 .0;
-      readers-full = n .1 .1 .1 .1 .1 .1 .1 .1 .1 .1 .0;
-      gaps-full = n .1 .1 .1 .1 .1 .1 .1 .1 .1 .1 .1 .0;
-      frags-full = n .1 .1 .1 .1 .1 .1 .1 .1 .1 .1 .1 .1 .0;
-      nothing = n .1 .1 .1 .1 .1 .1 .1 .1 .1 .1 .1 .1 .1 .0;
-    }
+-- the row that stands first, whatever the others
+pub first-row : (x y : Bool) → (x || y) ≡ false → y ≡ false
+first-row true y e = absurd (false≢true (sym e))
+first-row false y e = e
 
--- an answer of 0 is `done`
-pub done-is : (a : Answer) → a .number ≡ 0 → a ≡ done
-done-is a e = ap (λ (n : ℕ). the-answer n) e
-  where
-    the-answer : ℕ → Answer
-    the-answer n = record { number = n }
+-- an answer of 0 to a call is `done`
+pub done-is : (rs : Rows) (a : Answer) → a ≡ answerOf rs → a .number ≡ 0 → a ≡ done
+done-is rs a q e = q ∙ ap answerAt (sym (ap (λ (x : Answer). x .number) q) ∙ e)
 
 -- the outcome, by the answer
 module _ {A : Type 0} (r : Rows) (a : Answer) (q : a ≡ answerOf r) (f : Answer → A) (d : A) where

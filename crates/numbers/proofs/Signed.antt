@@ -1,5 +1,5 @@
 -- From a signed 64-bit number, as the machine reads it back from its bits, to its natural number. Assumes nothing.
-use Prim.Native.Nat.{ℕ, suc, _<_, _-_, _^_, zero-le}
+use Prim.Native.Nat.{ℕ, suc, _+_, _<_, _-_, _^_, zero-le}
 use mathlib.Core.Path.{_≡_, refl, sym, ap, _∙_}
 use mathlib.Core.Bool.{Bool, true, false, cond}
 use native.Mathlib.Nat.{lt-trans}
@@ -43,11 +43,15 @@ pub nat-small : (z : ℤ) → mag z < 2 ^ 63 → natOf z < 2 ^ 63
 nat-small (pos n) h = h
 nat-small (negsuc n) h = lit< tt
 
--- one more of a number below 2 ^ 63 - 2 fits
-pub next-fits : (z : ℤ) → mag z < 2 ^ 63 → ltZ z (pos 9223372036854775806) ≡ true → mag (z +ℤ pos 1) < 2 ^ 63
-next-fits (pos n) m h = let k = ltb-true n 9223372036854775806 h in omega arith
-next-fits (negsuc n) m h = go (ltb 1 (suc n))
+-- 256 more of a negative number fits; of one that isn't negative it is the natural number's
+pub window-fits : (z : ℤ) → mag z < 2 ^ 63 → ltZ z (pos 0) ≡ true → mag (z +ℤ pos 256) < 2 ^ 63
+window-fits (pos n) m h = let k = ltb-true n 0 h in absurd (omega arith)
+window-fits (negsuc n) m h = go (ltb 256 (suc n))
   where
-    go : (t : Bool) → mag (cond t (negsuc (suc n - 2)) (pos (1 - suc n))) < 2 ^ 63
+    go : (t : Bool) → mag (cond t (negsuc (suc n - 257)) (pos (256 - suc n))) < 2 ^ 63
     go true = omega arith
     go false = omega arith
+
+pub window-nat : (z : ℤ) → ltZ z (pos 0) ≡ false → natOf z + 256 ≡ natOf (z +ℤ pos 256)
+window-nat (pos n) h = refl
+window-nat (negsuc n) h = let o : _≡_ {A = ℕ} 0 1 = cc in absurd (omega arith)

@@ -1,22 +1,19 @@
 -- The answer of a step of several calls. Assumes nothing.
 use Prim.Native.Nat.{ℕ}
-use mathlib.Core.Bool.{Bool, cond, _||_}
-use mathlib.Core.List.{List, [], _∷_, map}
+use mathlib.Core.Bool.{Bool, true, false, cond}
+use mathlib.Core.List.{List, [], _∷_}
 use lib.Dec.{eqb}
-use Rattle.numbers.specs.Refusals.{row, rowsOf, answerOf, done, isDone}
+use Rattle.numbers.specs.Refusals.{numbers, done, isDone}
 use Rattle.numbers.specs.declared.answer.Answer.{Answer}
 
--- one of two calls is answered n
-abbrev pub said : Answer → Answer → ℕ → Bool
-said a b n = eqb (a .number) n || eqb (b .number) n
-
--- the numbers of the table
-abbrev pub numbers : List ℕ
-numbers = 13 ∷ 1 ∷ 3 ∷ 2 ∷ 11 ∷ 12 ∷ 4 ∷ 5 ∷ 6 ∷ 7 ∷ 8 ∷ 9 ∷ 10 ∷ 14 ∷ []
+-- of two numbers in the order of a table, the first comes first; one that isn't in it comes last
+unfoldable pub isBefore : List ℕ → ℕ → ℕ → Bool
+isBefore [] x y = true
+isBefore (n ∷ ns) x y = cond (eqb x n) true (cond (eqb y n) false (isBefore ns x y))
 
 -- "Order where several apply": of two calls' answers, the one that comes first in the table
 abbrev pub earlier : Answer → Answer → Answer
-earlier a b = answerOf (rowsOf (map (λ n. row n (said a b n)) numbers))
+earlier a b = cond (isDone b) a (cond (isDone a) b (cond (isBefore numbers (a .number) (b .number)) a b))
 
 -- of several calls'
 abbrev pub firstAnswer : List Answer → Answer

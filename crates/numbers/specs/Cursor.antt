@@ -1,66 +1,60 @@
 -- "Iterators: 'next from here' questions, by value, with the cursor handed back". Assumes nothing.
 use Prim.Native.Nat.{ℕ, _+_}
 use mathlib.Core.Bool.{Bool, cond}
-use mathlib.Core.List.{List}
+use mathlib.Core.Path.{refl}
+use mathlib.Core.List.{List, _∷_}
 use lib.Dec.{ltb}
 use Rattle.sets.specs.Sets.{empty, firstOr}
 use Rattle.numbers.specs.declared.answer.Answer.{Answer}
-use Rattle.numbers.specs.declared.answer.Rows.{Rows}
 use Rattle.numbers.specs.declared.cursor.Cursor.{Cursor}
+use Rattle.numbers.specs.declared.cursor.FragmentCursor.{FragmentCursor}
 use Rattle.numbers.specs.declared.cursor.NextNumber.{NextNumber}
 use Rattle.numbers.specs.declared.cursor.NextFragment.{NextFragment}
 use Rattle.numbers.specs.Number.{numberAt, fragmentAt}
-use Rattle.numbers.specs.Refusals.{done, unless}
+use Rattle.numbers.specs.Refusals.{Rows, row, done, unless}
 
 -- past n: n + 1, or n where that is no 64-bit number
+abbrev pub past : ℕ → ℕ
+past n = cond (ltb n 18446744073709551615) (n + 1) n
+
 abbrev pub cursorPast : ℕ → Cursor
-cursorPast n = record { from = cond (ltb n 18446744073709551615) (n + 1) n }
+cursorPast n = record { from = past n }
+
+abbrev pub fragmentCursorPast : ℕ → FragmentCursor
+fragmentCursorPast n = record { from = past n }
 
 abbrev pub cursorAt : ℕ → Cursor
 cursorAt n = record { from = n }
 
+abbrev pub fragmentCursorAt : ℕ → FragmentCursor
+fragmentCursorAt n = record { from = n }
+
 -- the answer of a question for the next number: n, with the cursor past it, or zeros where a row holds
-abbrev pub noNumber : Answer → NextNumber
-noNumber a = record { answer = a; number = numberAt 0; cursor = cursorAt 0 }
+abbrev pub noNextNumber : Answer → NextNumber
+noNextNumber a = record { answer = a; number = numberAt 0; cursor = cursorAt 0 }
 
 abbrev pub thisNumber : ℕ → NextNumber
 thisNumber n = record { answer = done; number = numberAt n; cursor = cursorPast n }
 
 abbrev pub nextNumber : Rows → ℕ → NextNumber
-nextNumber r n = unless r noNumber (thisNumber n)
+nextNumber r n = unless r noNextNumber (thisNumber n)
 
-abbrev pub noFragment : Answer → NextFragment
-noFragment a = record { answer = a; number = fragmentAt 0; cursor = cursorAt 0 }
+abbrev pub noNextFragment : Answer → NextFragment
+noNextFragment a = record { answer = a; number = fragmentAt 0; cursor = fragmentCursorAt 0 }
 
 abbrev pub thisFragment : ℕ → NextFragment
-thisFragment n = record { answer = done; number = fragmentAt n; cursor = cursorPast n }
+thisFragment n = record { answer = done; number = fragmentAt n; cursor = fragmentCursorPast n }
 
-abbrev pub nextFragment : Rows → ℕ → NextFragment
-nextFragment r n = unless r noFragment (thisFragment n)
+abbrev pub nextFragmentNumber : Rows → ℕ → NextFragment
+nextFragmentNumber r n = unless r noNextFragment (thisFragment n)
 
--- the rows of a question for the next number: those of the call, with 14 where there is none
+-- the rows of a question for the next number: those of the call, and 14 where there is none
 abbrev pub orNone : Rows → Bool → Rows
-orNone r none =
-    record {
-      limit = r .limit;
-      incoherent = r .incoherent;
-      bits = r .bits;
-      range = r .range;
-      reader = r .reader;
-      ahead = r .ahead;
-      payload = r .payload;
-      «used_up» = r .«used_up»;
-      «would_block» = r .«would_block»;
-      «store_full» = r .«store_full»;
-      «readers_full» = r .«readers_full»;
-      «gaps_full» = r .«gaps_full»;
-      «frags_full» = r .«frags_full»;
-      nothing = none;
-    }
+orNone rs none = row 14 refl none ∷ rs
 
 -- the next number of l, the rising numbers at or after the cursor that the answer can hold
 abbrev pub nextOfThese : Rows → List ℕ → NextNumber
 nextOfThese r l = nextNumber (orNone r (empty l)) (firstOr 0 l)
 
 abbrev pub nextFragmentOfThese : Rows → List ℕ → NextFragment
-nextFragmentOfThese r l = nextFragment (orNone r (empty l)) (firstOr 0 l)
+nextFragmentOfThese r l = nextFragmentNumber (orNone r (empty l)) (firstOr 0 l)

@@ -1,4 +1,5 @@
 -- The definitions of `numbers`.
+pub mod Capacities
 pub mod Number
 pub mod Refusals
 pub mod Answers

@@ -3,18 +3,10 @@ use Prim.Native.Nat.{ℕ, _^_, _<_}
 use mathlib.Core.Path.{_≡_}
 use mathlib.Core.Bool.{Bool, true, false, not, cond, _&&_}
 use lib.IntN.{ℤ, pos, negsuc, _+ℤ_}
-use lib.Signed.{ltZ}
 use lib.Dec.{ltb, leb}
+use Rattle.numbers.specs.Capacities.{topNumber, topFragment, mostBits}
 use Rattle.numbers.specs.declared.sequence_number.SequenceNumber.{SequenceNumber}
 use Rattle.numbers.specs.declared.fragment_number.FragmentNumber.{FragmentNumber}
-
--- "a written sample has 1 through 2^63−2"
-abbrev pub topNumber : ℕ
-topNumber = 9223372036854775806
-
--- "fragment number: 1 to 4,096"
-abbrev pub topFragment : ℕ
-topFragment = 4096
 
 -- the natural number of an integer; 0 for all below 0
 abbrev pub natOf : ℤ → ℕ
@@ -52,9 +44,9 @@ isSample s = validRank (rankOf s)
 abbrev pub isFragment : FragmentNumber → Bool
 isFragment f = leb 1 (f .0) && leb (f .0) topFragment
 
--- D8: "no number moved past 2^63−2"
-abbrev pub nextOf : SequenceNumber → SequenceNumber
-nextOf s = record { 0 = cond (ltZ (s .0) (pos topNumber)) (s .0 +ℤ pos 1) (s .0) }
+-- the first natural number past the bits of a set with this base; a base far below 0 has none before 0
+abbrev pub pastBits : SequenceNumber → ℕ
+pastBits s = natOf (s .0 +ℤ pos mostBits)
 
 -- what `rank` answers
 pub record Ranked (s : SequenceNumber) (r : ℕ) : Type 0 where

@@ -1,77 +1,53 @@
 -- The numbers returned and the order in which they apply, as data. "Each is given when its row holds and otherwise not." Assumes nothing.
 use Prim.Native.Nat.{ℕ}
-use mathlib.Core.Bool.{Bool, false, cond}
+use mathlib.Core.Path.{_≡_}
+use mathlib.Core.Bool.{Bool, true, false, cond, _||_}
 use mathlib.Core.List.{List, [], _∷_}
 use lib.Dec.{eqb}
+use Rattle.sets.specs.Sets.{has}
 use Rattle.numbers.specs.declared.answer.Answer.{Answer}
-use Rattle.numbers.specs.declared.answer.Rows.{Rows}
 
--- one row: its number, and whether it holds
+-- THE TABLE: "Order where several apply: 13, 1, 3, 2, 11, 12, then 4, 5, 6, 7; 8, 9, 10 and 14 come last". A new number is one more here.
+abbrev pub numbers : List ℕ
+numbers = 13 ∷ 1 ∷ 3 ∷ 2 ∷ 11 ∷ 12 ∷ 4 ∷ 5 ∷ 6 ∷ 7 ∷ 8 ∷ 9 ∷ 10 ∷ 14 ∷ []
+
+-- one row of a call: a number of the table, and whether it holds. A number that isn't in the table makes no row: `row 99 refl t` has no type
 pub record Row : Type 0 where
   pub number : ℕ
+  pub listed : has numbers number ≡ true
   pub holds : Bool
 
-abbrev pub row : ℕ → Bool → Row
-row n t = record { number = n; holds = t }
+abbrev pub row : (n : ℕ) → has numbers n ≡ true → Bool → Row
+row n l t = record { number = n; listed = l; holds = t }
 
--- "Order where several apply: 13, 1, 3, 2, 11, 12, then 4, 5, 6, 7; 8, 9, 10 and 14 come last"
-abbrev pub table : Rows → List Row
-table r =
-    row 13 (r .limit)
-    ∷ row 1 (r .incoherent)
-    ∷ row 3 (r .bits)
-    ∷ row 2 (r .range)
-    ∷ row 11 (r .reader)
-    ∷ row 12 (r .ahead)
-    ∷ row 4 (r .payload)
-    ∷ row 5 (r .«used_up»)
-    ∷ row 6 (r .«would_block»)
-    ∷ row 7 (r .«store_full»)
-    ∷ row 8 (r .«readers_full»)
-    ∷ row 9 (r .«gaps_full»)
-    ∷ row 10 (r .«frags_full»)
-    ∷ row 14 (r .nothing)
-    ∷ []
+-- the rows of a call, in any order
+abbrev pub Rows : Type 0
+Rows = List Row
 
--- the number of the first row that holds, or 0
-abbrev pub firstOf : List Row → ℕ
-firstOf [] = 0
-firstOf (r ∷ rs) = cond (r .holds) (r .number) (firstOf rs)
+-- a row of that number holds; where it stands twice, either refuses
+abbrev pub holdsIn : ℕ → Rows → Bool
+holdsIn n [] = false
+holdsIn n (r ∷ rs) = cond (eqb (r .number) n) (holdsIn n rs || r .holds) (holdsIn n rs)
 
--- the answer, by the table alone
+-- the first number of which a row holds, or 0
+abbrev pub firstRow : List ℕ → Rows → ℕ
+firstRow [] rs = 0
+firstRow (n ∷ ns) rs = cond (holdsIn n rs) n (firstRow ns rs)
+
+-- the answer of a number; no answer of today has a place
+abbrev pub answerAt : ℕ → Answer
+answerAt n = record { number = n; place = 0 }
+
+-- the answer of a call, by the table alone
 abbrev pub answerOf : Rows → Answer
-answerOf r = record { number = firstOf (table r) }
+answerOf rs = answerAt (firstRow numbers rs)
 
 abbrev pub done : Answer
-done = record { number = 0 }
+done = answerAt 0
 
 abbrev pub isDone : Answer → Bool
 isDone a = eqb (a .number) 0
 
--- the rows of a call, from the table of those that it can be refused by: each a number and when it holds
-abbrev pub holdsIn : ℕ → List Row → Bool
-holdsIn n [] = false
-holdsIn n (r ∷ rs) = cond (eqb (r .number) n) (r .holds) (holdsIn n rs)
-
-abbrev pub rowsOf : List Row → Rows
-rowsOf rs =
-    record {
-      limit = holdsIn 13 rs;
-      incoherent = holdsIn 1 rs;
-      bits = holdsIn 3 rs;
-      range = holdsIn 2 rs;
-      reader = holdsIn 11 rs;
-      ahead = holdsIn 12 rs;
-      payload = holdsIn 4 rs;
-      «used_up» = holdsIn 5 rs;
-      «would_block» = holdsIn 6 rs;
-      «store_full» = holdsIn 7 rs;
-      «readers_full» = holdsIn 8 rs;
-      «gaps_full» = holdsIn 9 rs;
-      «frags_full» = holdsIn 10 rs;
-      nothing = holdsIn 14 rs;
-    }
-
 -- what comes of a call: where a row holds, what the refusal leaves; else what is done
 abbrev pub unless : {A : Type 0} → Rows → (Answer → A) → A → A
-unless r refused d = cond (isDone (answerOf r)) d (refused (answerOf r))
+unless rs refused d = cond (isDone (answerOf rs)) d (refused (answerOf rs))

@@ -1,32 +1,15 @@
 // The numbers returned, and the one place that puts them in order.
-ghost use mathlib.Core.Path.{_≡_};
-ghost use mathlib.Core.Bool.{cond};
-ghost use mathlib.Core.List.{[]};
+ghost use mathlib.Core.Path.{_≡_, refl};
+ghost use mathlib.Core.Bool.{cond, not};
+ghost use mathlib.Core.List.{[], _∷_};
 ghost use lib.Dec.{eqb};
-ghost use Rattle.numbers.specs.Refusals.{answerOf, rowsOf};
+ghost use Rattle.numbers.specs.Refusals.{row, answerAt, answerOf, done};
 
-// The number of a call's answer: 0, or the number of the first row that holds.
+// A call's answer: 0, or the number of the first row that holds; and the place that it is about, where a number has one. None has today.
 #[repr(C)]
 pub struct Answer {
     pub number: u32,
-}
-
-// Which rows of the table of refusals hold, for one call.
-pub struct Rows {
-    pub limit: bool,
-    pub incoherent: bool,
-    pub bits: bool,
-    pub range: bool,
-    pub reader: bool,
-    pub ahead: bool,
-    pub payload: bool,
-    pub used_up: bool,
-    pub would_block: bool,
-    pub store_full: bool,
-    pub readers_full: bool,
-    pub gaps_full: bool,
-    pub frags_full: bool,
-    pub nothing: bool,
+    pub place: u32,
 }
 
 // The number of a row that holds, or what the rows after it give.
@@ -85,26 +68,53 @@ impl Answer {
     // A trace line isn't understood.
     pub const LINE: u32 = 15;
 
-    // The answer of a call of which these rows hold.
-    pub fn of(rows: Rows) -> Answer
-        ensures { λ r. ⌜ r ≡ answerOf rows ⌝ }
+    // The order in which they apply.
+    pub const ORDER: [u32; 14] = [13, 1, 3, 2, 11, 12, 4, 5, 6, 7, 8, 9, 10, 14];
+
+    // The one place where an answer is made.
+    fn at(number: u32) -> Answer
+        ensures { λ r. ⌜ r ≡ answerAt number ⌝ }
     {
-        // From the last row to the first, which has the last word.
-        let n = row(Answer::NOTHING, rows.nothing, Answer::DONE);
-        let n = row(Answer::FRAGS_FULL, rows.frags_full, n);
-        let n = row(Answer::GAPS_FULL, rows.gaps_full, n);
-        let n = row(Answer::READERS_FULL, rows.readers_full, n);
-        let n = row(Answer::STORE_FULL, rows.store_full, n);
-        let n = row(Answer::WOULD_BLOCK, rows.would_block, n);
-        let n = row(Answer::USED_UP, rows.used_up, n);
-        let n = row(Answer::PAYLOAD, rows.payload, n);
-        let n = row(Answer::AHEAD, rows.ahead, n);
-        let n = row(Answer::READER, rows.reader, n);
-        let n = row(Answer::RANGE, rows.range, n);
-        let n = row(Answer::BITS, rows.bits, n);
-        let n = row(Answer::INCOHERENT, rows.incoherent, n);
-        let n = row(Answer::LIMIT, rows.limit, n);
-        Answer { number: n }
+        Answer { number, place: 0 }
+    }
+
+    // The answer of a call that no row refuses.
+    pub fn done() -> Answer
+        ensures { λ r. ⌜ r ≡ done ⌝ }
+    {
+        Answer::at(Answer::DONE)
+    }
+
+    // This answer, unless a row that comes before it holds. A call's rows are so given from the last to the first, as the table
+    // has them: in another order, or with a number that isn't the row's, no caller meets its contract.
+    pub fn unless(self, holds: bool, number: u32) -> Answer
+        ensures { λ r. ⌜ r ≡ answerAt (cond holds number (self .number)) ⌝ }
+    {
+        let after = self.number;
+        Answer::at(row(number, holds, after))
+    }
+
+    // The answer of a call that only what isn't coherent refuses.
+    pub fn coherence(good: bool) -> Answer
+        ensures { λ r. ⌜ r ≡ answerOf (row 1 refl (not good) ∷ []) ⌝ }
+    {
+        Answer::done().unless(!good, Answer::INCOHERENT)
+    }
+
+    // The answer of a question that finds something or nothing.
+    pub fn found(good: bool, none: bool) -> Answer
+        ensures { λ r. ⌜ r ≡ answerOf (row 1 refl (not good) ∷ row 14 refl none ∷ []) ⌝ }
+    {
+        Answer::done()
+            .unless(none, Answer::NOTHING)
+            .unless(!good, Answer::INCOHERENT)
+    }
+
+    // The answer to a trace line that isn't understood: no call's, and in no order with theirs.
+    pub fn not_understood() -> Answer
+        ensures { λ r. ⌜ r ≡ answerAt 15 ⌝ }
+    {
+        Answer::at(Answer::LINE)
     }
 
     // Whether the call was done and not refused.
@@ -112,29 +122,5 @@ impl Answer {
         ensures { λ r. ⌜ r ≡ eqb (self .number) 0 ⌝ }
     {
         self.number == 0
-    }
-}
-
-impl Rows {
-    // No row holds.
-    pub fn none() -> Rows
-        ensures { λ r. ⌜ r ≡ rowsOf [] ⌝ }
-    {
-        Rows {
-            limit: false,
-            incoherent: false,
-            bits: false,
-            range: false,
-            reader: false,
-            ahead: false,
-            payload: false,
-            used_up: false,
-            would_block: false,
-            store_full: false,
-            readers_full: false,
-            gaps_full: false,
-            frags_full: false,
-            nothing: false,
-        }
     }
 }

@@ -1,13 +1,19 @@
 // A place in a rising set, by value: the next number is the smallest at or after it, and the cursor that comes back stands past that number.
 ghost use mathlib.Core.Path.{_≡_};
-ghost use Rattle.numbers.specs.Cursor.{cursorPast, nextNumber, nextFragment};
+ghost use Rattle.numbers.specs.Cursor.{past, cursorPast, fragmentCursorPast, noNextNumber, thisNumber, noNextFragment, thisFragment};
+ghost use Rattle.numbers.specs.Answers.{answered};
 use crate::answer::Answer;
-use crate::answer::Rows;
 use crate::fragment_number::FragmentNumber;
 use crate::sequence_number::SequenceNumber;
 
 #[repr(C)]
 pub struct Cursor {
+    pub from: u64,
+}
+
+// The same among fragments: a type of its own, so that neither is taken for the other.
+#[repr(C)]
+pub struct FragmentCursor {
     pub from: u64,
 }
 
@@ -22,28 +28,39 @@ pub struct NextNumber {
 pub struct NextFragment {
     pub answer: Answer,
     pub number: FragmentNumber,
-    pub cursor: Cursor,
+    pub cursor: FragmentCursor,
+}
+
+// Past n. There is none past the largest 64-bit number.
+fn past(n: u64) -> u64
+    ensures { λ r. ⌜ r ≡ past n ⌝ }
+{
+    if n < 18446744073709551615 { n + 1 } else { n }
 }
 
 impl Cursor {
-    // The cursor past n. There is none past the largest 64-bit number.
     pub fn past(n: u64) -> Cursor
         ensures { λ r. ⌜ r ≡ cursorPast n ⌝ }
     {
-        if n < 18446744073709551615 {
-            Cursor { from: n + 1 }
-        } else {
-            Cursor { from: n }
-        }
+        let from = past(n);
+        Cursor { from }
+    }
+}
+
+impl FragmentCursor {
+    pub fn past(n: u64) -> FragmentCursor
+        ensures { λ r. ⌜ r ≡ fragmentCursorPast n ⌝ }
+    {
+        let from = past(n);
+        FragmentCursor { from }
     }
 }
 
 impl NextNumber {
     // The answer of a question for the next number that found n, or met a row.
-    pub fn of(rows: Rows, n: u64) -> NextNumber
-        ensures { λ r. ⌜ r ≡ nextNumber rows n ⌝ }
+    pub fn of(answer: Answer, n: u64) -> NextNumber
+        ensures { λ r. ⌜ r ≡ answered answer noNextNumber (thisNumber n) ⌝ }
     {
-        let answer = Answer::of(rows);
         if answer.number != 0 {
             return NextNumber {
                 answer,
@@ -51,6 +68,7 @@ impl NextNumber {
                 cursor: Cursor { from: 0 },
             };
         }
+        let answer = Answer::done();
         let number = SequenceNumber::from_rank(n);
         let cursor = Cursor::past(n);
         NextNumber {
@@ -62,19 +80,19 @@ impl NextNumber {
 }
 
 impl NextFragment {
-    pub fn of(rows: Rows, n: u64) -> NextFragment
-        ensures { λ r. ⌜ r ≡ nextFragment rows n ⌝ }
+    pub fn of(answer: Answer, n: u64) -> NextFragment
+        ensures { λ r. ⌜ r ≡ answered answer noNextFragment (thisFragment n) ⌝ }
     {
-        let answer = Answer::of(rows);
         if answer.number != 0 {
             return NextFragment {
                 answer,
                 number: FragmentNumber(0),
-                cursor: Cursor { from: 0 },
+                cursor: FragmentCursor { from: 0 },
             };
         }
+        let answer = Answer::done();
         let number = FragmentNumber::from_rank(n);
-        let cursor = Cursor::past(n);
+        let cursor = FragmentCursor::past(n);
         NextFragment {
             answer,
             number,

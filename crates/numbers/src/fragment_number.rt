@@ -10,6 +10,13 @@ impl FragmentNumber {
     // The last fragment number that can be asked for.
     pub const LAST: u32 = 4096;
 
+    // The same as a natural number, the first that can't, and how many 64-bit words hold a bit for each that can.
+    pub const TOP: u64 = 4096;
+
+    pub const PAST: u64 = 4097;
+
+    pub const WORDS: usize = 64;
+
     // The natural number of a fragment number.
     pub fn rank(self) -> u64
         ensures { λ r. ⌜ r ≡ self .0 ⌝ }
@@ -34,7 +41,7 @@ impl FragmentNumber {
         ensures { λ r. ⌜ r ≡ isFragment self ⌝ }
     {
         let n = self.0;
-        (1 <= n) & (n <= 4096)
+        (1 <= n) & (n <= FragmentNumber::LAST)
     }
 
     pub fn is_below(self, other: FragmentNumber) -> bool

@@ -7,8 +7,8 @@ pub mod fragment_number;
 pub mod sequence_number;
 
 pub use answer::Answer;
-pub use answer::Rows;
 pub use cursor::Cursor;
+pub use cursor::FragmentCursor;
 pub use cursor::NextFragment;
 pub use cursor::NextNumber;
 pub use fragment_number::FragmentNumber;

@@ -1,7 +1,7 @@
 // The number of a sample: signed, 64 bits.
 ghost use mathlib.Core.Path.{_≡_};
 ghost use lib.Signed.{ltZ};
-ghost use Rattle.numbers.specs.Number.{Ranked, inRange, isSample, numberAt, negative, nextOf};
+ghost use Rattle.numbers.specs.Number.{Ranked, inRange, isSample, numberAt, negative, pastBits};
 
 #[repr(C)]
 pub struct SequenceNumber(pub i64);
@@ -9,6 +9,9 @@ pub struct SequenceNumber(pub i64);
 impl SequenceNumber {
     // The last number that a written sample can have, 2 ^ 63 - 2.
     pub const LAST: u64 = 9223372036854775806;
+
+    // The largest of all, 2 ^ 63 - 1: all before it may be acknowledged.
+    pub const LARGEST: u64 = 9223372036854775807;
 
     // The natural number of a sequence number; 0 stands for all that are below 1.
     pub fn rank(self) -> u64
@@ -50,7 +53,7 @@ impl SequenceNumber {
         ensures { λ r. ⌜ r ≡ isSample self ⌝ }
     {
         let n = self.rank();
-        (1 <= n) & (n <= 9223372036854775806)
+        (1 <= n) & (n <= SequenceNumber::LAST)
     }
 
     // The comparison of the signed numbers themselves.
@@ -62,15 +65,15 @@ impl SequenceNumber {
         a < b
     }
 
-    // The next number. None moves past 2 ^ 63 - 2.
-    pub fn plus_1(self) -> SequenceNumber
-        ensures { λ r. ⌜ r ≡ nextOf self ⌝ }
+    // The first natural number past the 256 bits of a set that starts here; where that is below 0, 0.
+    pub fn past_bits(self) -> u64
+        ensures { λ r. ⌜ r ≡ pastBits self ⌝ }
     {
         let n = self.0;
-        if n < 9223372036854775806 {
-            SequenceNumber(n + 1)
-        } else {
-            self
+        if n < 0 {
+            let end = SequenceNumber(n + 256);
+            return end.rank();
         }
+        self.rank() + 256
     }
 }

@@ -9,6 +9,7 @@ use crate::line::on;
 use crate::line::rest;
 use numbers::Answer;
 use numbers::Cursor;
+use numbers::FragmentCursor;
 use numbers::NextNumber;
 use numbers::arith::smaller;
 use rtps_reader_proxy::ReaderProxy;
@@ -107,7 +108,7 @@ fn fragment_shown(
     from: u64,
     i: usize,
 ) -> usize {
-    let r = head.next_frag_requested(samples, words, Cursor { from });
+    let r = head.next_frag_requested(samples, words, FragmentCursor { from });
     let now = expect(line, i, r.fragment.rank());
     expect(line, now, r.sample.rank())
 }

@@ -30,7 +30,8 @@ fn fetch_shown(
     i: usize,
 ) -> usize {
     let n = number(line, i);
-    let answer = flow.locate(store.len(), lens, n).answer;
+    let found = flow.locate(store.len(), lens, n);
+    let answer = found.answer;
     let now = after(i, 1);
     if answer.number == Answer::NOTHING {
         return expect(line, now, 0);
@@ -38,7 +39,7 @@ fn fetch_shown(
     if answer.number != Answer::DONE {
         return DIFFERS;
     }
-    bytes_shown(line, flow.get_by_sn(store, lens, n), expect(line, now, 1))
+    bytes_shown(line, found.part(store), expect(line, now, 1))
 }
 
 // Whether all is acknowledged through a number.

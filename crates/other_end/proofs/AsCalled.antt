@@ -9,22 +9,22 @@ use lib.Dec.{ltb, eqb}
 use lib.ListN.{length, set, replicate}
 use borrow.Author.Tests.{eqb-true, eqb-false, eq-eqb, ne-eqb}
 use Rattle.sets.proofs.Bools.{and-both, clash}
-use Rattle.numbers.specs.Number.{topNumber, rankOf, numberAt}
-use Rattle.numbers.specs.Refusals.{answerOf, isDone, unless, done}
+use Rattle.numbers.specs.Capacities.{topNumber}
+use Rattle.numbers.specs.Number.{rankOf, numberAt}
+use Rattle.numbers.specs.Refusals.{holdsIn, answerOf, isDone, unless, done, Rows}
 use Rattle.numbers.specs.Promise.{Left1, Left3}
 use Rattle.numbers.specs.declared.answer.Answer.{Answer}
-use Rattle.numbers.specs.declared.answer.Rows.{Rows}
 use Rattle.numbers.specs.declared.sequence_number.SequenceNumber.{SequenceNumber}
 use Rattle.numbers.proofs.Refused.{done-is}
 use Rattle.number_sets.specs.Bits.{NumberSet, members}
 use Rattle.rtps_reader_proxy.specs.declared.proxy.Changed.{Changed}
 use Rattle.rtps_reader_proxy.specs.Reader.{Reader, acknowledge, notified}
-use Rattle.rtps_reader_proxy.specs.Record.{headOf as proxyOf, unsentOk, unsentRoom}
-use Rattle.reader_record.specs.Whole.{form, Valid}
+use Rattle.rtps_reader_proxy.specs.Record.{proxyOf, unsentCoherent, unsentRoom}
+use Rattle.reader_record.specs.Whole.{recordForm, Valid}
 use Rattle.reader_list.specs.declared.heads.ReaderHead.{ReaderHead}
 use Rattle.reader_list.specs.Readers.{free}
 use Rattle.reader_list.specs.declared.calls.Found.{Found}
-use Rattle.reader_list.specs.Slots.{unknown, listForm, freeSlot, foundOf}
+use Rattle.reader_list.specs.Slots.{idUnknown, listForm, freeSlot, foundOf}
 use Rattle.writer_send_buffer.specs.declared.limits.Kind.{Kind}
 use Rattle.writer_send_buffer.specs.declared.limits.Limits.{Limits}
 use Rattle.writer_send_buffer.specs.declared.flow.Moved.{Moved}
@@ -32,19 +32,19 @@ use Rattle.writer_send_buffer.specs.declared.flow.Told.{Told}
 use Rattle.writer_send_buffer.specs.declared.flow.Numbered.{Numbered}
 use Rattle.writer_send_buffer.specs.declared.flow.WriterSendBuffer.{WriterSendBuffer}
 use Rattle.writer_send_buffer.proofs.Sound.{Allowed, allowed-is}
-use Rattle.writer_send_buffer.specs.Flow.{Flow, allowed, counted, blank, admitRows, admitted, ahead, unwritten, raised, evicted}
-use Rattle.writer_send_buffer.specs.Buffer.{form as flowForm, isCoherent, limited, zeroed, ranged, noNumber, toldNo, lastOf, sentOf, evictOf}
-use Rattle.writer_send_buffer.specs.Samples.{isCoherentStore, startOf, slotOf, over, admitOf}
-use Rattle.writer_send_buffer.specs.History.{admit, setSent, removeBefore}
+use Rattle.writer_send_buffer.specs.Flow.{Flow, allowed, limitsCounted, blank, admitRows, admitted, ahead, unwritten, raised, evicted}
+use Rattle.writer_send_buffer.specs.Buffer.{flowForm, flowCoherent, limited, zeroed, ranged, numberedNo, toldNo, lastOf, sentOf, evictOf}
+use Rattle.writer_send_buffer.specs.Samples.{storeCoherent, slotStart, slotOf, withBytes, admitOf}
+use Rattle.writer_send_buffer.specs.History.{admit, setSent, evictBefore}
 use Rattle.writer_send_buffer.proofs.Kept.{coherent-step}
 use Rattle.writer_send_buffer.proofs.Steps.{view-form, form-coherent as flow-coherent, fits-blank}
-use Rattle.writer_write.specs.Write.{Kept, Written, told, writeStep}
+use Rattle.writer_write.specs.Write.{UnsentPart, Written, told, writeStep}
 use Rattle.writer_write.specs.InPlace.{writeOf}
-use Rattle.writer_write.specs.Standing.{standing, allOk, standsAs}
+use Rattle.writer_write.specs.Standing.{standing, allUnsentCoherent, standsAs}
 use Rattle.writer_write.proofs.Standing.{whole-after, roomy-after}
-use Rattle.other_end.specs.Calls.{Call, result, callRows}
-use Rattle.other_end.specs.System.{Line, Body, sample, gap, beat, ack, Msg, State, Event, match, depart, write, sentTo, evictTo, call, heartbeat, send, reply, deliver, find, upd, nth, onServer, withLines, withFlow, tried, ackRows, acknowledges, called, writeRows, sentRows, evictRows, wrote, evicts, arrive, step}
-use Rattle.other_end.specs.AsCalled.{Starts, Then, calledOn, Acks, ackOn, Arrives, Delivers, keptForm, Writes, WriteCalled, SentCalled, EvictCalled, Outcome, CallCalled, AsCalled}
+use Rattle.other_end.specs.Calls.{ReaderCall, result, callRows}
+use Rattle.other_end.specs.System.{Line, Body, sample, gap, beat, ack, Msg, State, Event, match, depart, write, sentTo, evictTo, call, heartbeat, send, reply, deliver, find, upd, nth, onServer, withLines, stateWithFlow, tried, ackRefusals, acknowledges, called, writeRefusals, sentRefusals, evictRefusals, wrote, evicts, arrive, step}
+use Rattle.other_end.specs.AsCalled.{Starts, Then, calledOn, Acks, ackOn, ArriveCalled, DeliverCalled, unsentPartForm, Writes, WriteCalled, SentCalled, EvictCalled, Outcome, CallCalled, AsCalled}
 use Rattle.other_end.proofs.Found.{none-some, find-same, All, found-all}
 use Rattle.other_end.proofs.Calls.{done-clear}
 use Rattle.other_end.proofs.Fine.{Sane}
@@ -58,9 +58,9 @@ use Rattle.other_end.proofs.Sends.{send-called}
 pub starts : (k : Kind) (l : Limits) (slots : ℕ) → allowed l ≡ true → Starts k l slots
 starts k l slots e = record { flow = ap by counts ∙ ap (λ (t : Bool). made t l) e; list = frees slots; store = stored }
   where
-    stored : (store lens : List ℕ) → length lens ≡ l .slots → length store ≡ l .slots * l .«slot_bytes» → isCoherentStore (flowForm (blank k l)) (length store) lens ≡ true
+    stored : (store lens : List ℕ) → length lens ≡ l .slots → length store ≡ l .slots * l .«slot_bytes» → storeCoherent (flowForm (blank k l)) (length store) lens ≡ true
     stored store lens p q =
-        and-both (isCoherent (flowForm (blank k l))) _ (flow-coherent (blank k l) (fits-blank k l e))
+        and-both (flowCoherent (flowForm (blank k l))) _ (flow-coherent (blank k l) (fits-blank k l e))
         (and-both (eqb (length lens) (l .slots)) _ (eq-eqb (length lens) (l .slots) p) (and-both (eqb (length store) (l .slots * l .«slot_bytes»)) true (eq-eqb (length store) (l .slots * l .«slot_bytes») q) refl))
 
     made : Bool → Limits → Moved
@@ -81,7 +81,7 @@ starts k l slots e = record { flow = ap by counts ∙ ap (λ (t : Bool). made t 
     retain : max 1 (l .retain) ≡ l .retain
     retain = omega (arith, a .retain-some)
 
-    counts : counted l ≡ l
+    counts : limitsCounted l ≡ l
     counts = λ i. record { window = window i; backlog = backlog i; retain = retain i; slots = l .slots; «slot_bytes» = l .«slot_bytes» }
 
     frees : (n : ℕ) → listForm (replicate n free) ≡ replicate n freeSlot
@@ -93,103 +93,103 @@ pub record Stepped (o : Written) (a : Answer) (s′ : State) : Type 0 where
   pub answer : o .writer .result .answer ≡ a
   pub flow : o .writer .first ≡ flowForm (s′ .flow)
   pub number : isDone a ≡ true → o .writer .result .number ≡ numberAt (s′ .flow .last)
-  pub readers : o .readers ≡ map keptForm (s′ .lines)
-  pub store : isCoherentStore (o .writer .first) (length (o .writer .second)) (o .writer .third) ≡ true
+  pub readers : o .readers ≡ map unsentPartForm (s′ .lines)
+  pub store : storeCoherent (o .writer .first) (length (o .writer .second)) (o .writer .third) ≡ true
 
 module _ (s : State) (h : Sound s) where
   -- AN ACKNACK
   module _ (i : ℕ) (z : NumberSet) (near : z .base ≤ suc (s .flow .last)) where
-    ack-found : (l : Line) → find i (s .lines) ≡ some l → Then i (arrive i (ack z) s) (λ l′. Acks (ackOn i z s (l .server)) (answerOf (ackRows i z s)) s (arrive i (ack z) s) (l′ .server))
-    ack-found l e = go (isDone (answerOf (ackRows i z s))) (acks-so s h i z (l .server) (h .lines i l e .valid) near (λ _. ap (λ x. x .acked) (h .held i l e .head)))
+    ack-found : (l : Line) → find i (s .lines) ≡ some l → Then i (arrive i (ack z) s) (λ l′. Acks (ackOn i z s (l .server)) (answerOf (ackRefusals i z s)) s (arrive i (ack z) s) (l′ .server))
+    ack-found l e = go (isDone (answerOf (ackRefusals i z s))) (acks-so s h i z (l .server) (h .lines i l e .valid) near (λ _. ap (λ x. x .acked) (h .held i l e .head)))
       where
         up : Reader → Reader
         up = acknowledge (s .flow .last) (z .base) (members z)
 
-        go : (t : Bool) → Acks (ackOn i z s (l .server)) (answerOf (ackRows i z s)) s (cond t (acknowledges i z s) s) (cond t (up (l .server)) (l .server))
-            → Then i (cond t (acknowledges i z s) s) (λ l′. Acks (ackOn i z s (l .server)) (answerOf (ackRows i z s)) s (cond t (acknowledges i z s) s) (l′ .server))
+        go : (t : Bool) → Acks (ackOn i z s (l .server)) (answerOf (ackRefusals i z s)) s (cond t (acknowledges i z s) s) (cond t (up (l .server)) (l .server))
+            → Then i (cond t (acknowledges i z s) s) (λ l′. Acks (ackOn i z s (l .server)) (answerOf (ackRefusals i z s)) s (cond t (acknowledges i z s) s) (l′ .server))
         go true a = (onServer up l, find-same i (onServer up) (λ x. refl) (s .lines) l e, a)
         go false a = (l, e, a)
 
-    ack-unknown : find i (s .lines) ≡ none → (r : Reader) → Valid r → Acks (ackOn i z s r) (answerOf (ackRows i z s)) s s r × (arrive i (ack z) s ≡ s)
-    ack-unknown e r v = go (unknown i (s .heads)) refl
+    ack-unknown : find i (s .lines) ≡ none → (r : Reader) → Valid r → Acks (ackOn i z s r) (answerOf (ackRefusals i z s)) s s r × (arrive i (ack z) s ≡ s)
+    ack-unknown e r v = go (idUnknown i (s .heads)) refl
       where
-        go : (off : Bool) → unknown i (s .heads) ≡ off → Acks (ackOn i z s r) (answerOf (ackRows i z s)) s s r × (arrive i (ack z) s ≡ s)
+        go : (off : Bool) → idUnknown i (s .heads) ≡ off → Acks (ackOn i z s r) (answerOf (ackRefusals i z s)) s s r × (arrive i (ack z) s ≡ s)
         go false q = let w = h .known i q in none-some (sym e ∙ w .1)
         go true q =
-            let no : isDone (answerOf (ackRows i z s)) ≡ false = refuses (ackRows i z s) q in (
-              subst (λ (t : Bool). Acks (ackOn i z s r) (answerOf (ackRows i z s)) s (cond t (acknowledges i z s) s) (cond t (acknowledge (s .flow .last) (z .base) (members z) r) r)) no
-                  (acks-so s h i z r v near (λ w. clash (unknown i (s .heads)) q w)),
+            let no : isDone (answerOf (ackRefusals i z s)) ≡ false = refuses (ackRefusals i z s) q in (
+              subst (λ (t : Bool). Acks (ackOn i z s r) (answerOf (ackRefusals i z s)) s (cond t (acknowledges i z s) s) (cond t (acknowledge (s .flow .last) (z .base) (members z) r) r)) no
+                  (acks-so s h i z r v near (λ w. clash (idUnknown i (s .heads)) q w)),
               ap (λ (t : Bool). cond t (acknowledges i z s) s) no,
             )
           where
-            refuses : (rows : Rows) → rows .reader ≡ true → isDone (answerOf rows) ≡ false
+            refuses : (rows : Rows) → holdsIn 11 rows ≡ true → isDone (answerOf rows) ≡ false
             refuses rows w = by (isDone (answerOf rows)) refl
               where
                 by : (t : Bool) → isDone (answerOf rows) ≡ t → t ≡ false
-                by true d = clash (rows .reader) w (done-clear rows d .reader)
+                by true d = clash (holdsIn 11 rows) w (done-clear rows d 11 refl)
                 by false d = refl
 
-  delivered : (k : ℕ) (o : Option Msg) → nth (s .net) k ≡ o → Delivers o s
+  delivered : (k : ℕ) (o : Option Msg) → nth (s .net) k ≡ o → DeliverCalled o s
   delivered k none e = tt
   delivered k (some m) e = arrived (m .body) (h .sane k m e)
     where
-      arrived : (b : Body) → Sane (s .flow .last) b → Arrives (m .line) b s
+      arrived : (b : Body) → Sane (s .flow .last) b → ArriveCalled (m .line) b s
       arrived (sample n) g = tt
       arrived (gap n) g = tt
       arrived (beat n) g = tt
       arrived (ack z) g = (ack-found (m .line) z g, ack-unknown (m .line) z g)
 
   -- A WRITE
-  told-all : (n : ℕ) → 1 ≤ n → n ≤ topNumber → (ls : List Line) → All (λ l. Valid (l .server)) ls → map (told (numberAt n)) (map keptForm ls) ≡ map keptForm (map (onServer (notified n)) ls)
+  told-all : (n : ℕ) → 1 ≤ n → n ≤ topNumber → (ls : List Line) → All (λ l. Valid (l .server)) ls → map (told (numberAt n)) (map unsentPartForm ls) ≡ map unsentPartForm (map (onServer (notified n)) ls)
   told-all n p q [] v = refl
   told-all n p q (l ∷ ls) v = λ j. one j ∷ told-all n p q ls (v .1) j
     where
-      one : told (numberAt n) (keptForm l) ≡ keptForm (onServer (notified n) l)
+      one : told (numberAt n) (unsentPartForm l) ≡ unsentPartForm (onServer (notified n) l)
       one = ap (λ (o : Left1 Changed (List ℕ)). record { proxy = o .result .proxy; unsent = o .first }) (does-notify (l .server) (v .0) n p q)
 
-  write-stepped : (len : ℕ) (opted : Bool) (store lens payload : List ℕ) → length payload ≡ len → isCoherentStore (flowForm (s .flow)) (length store) lens ≡ true
-      → Stepped (writeStep (flowForm (s .flow)) store lens payload opted (map keptForm (s .lines))) (answerOf (writeRows len opted s)) (step (write len opted) s)
+  write-stepped : (len : ℕ) (opted : Bool) (store lens payload : List ℕ) → length payload ≡ len → storeCoherent (flowForm (s .flow)) (length store) lens ≡ true
+      → Stepped (writeStep (flowForm (s .flow)) store lens payload opted (map unsentPartForm (s .lines))) (answerOf (writeRefusals len opted s)) (step (write len opted) s)
   write-stepped len opted store lens payload el c =
-      subst (λ (o : Left3 Numbered WriterSendBuffer (List ℕ) (List ℕ)). Stepped (record { writer = o; readers = cond (isDone (o .result .answer)) (map (told (o .result .number)) (map keptForm (s .lines))) (map keptForm (s .lines)) }) (answerOf (writeRows len opted s)) (step (write len opted) s)) (sym is)
-      (go (isDone (answerOf (writeRows len opted s))) refl (subst fine is (coherent-step (record { flow = flowForm (s .flow); bytes = store; lens = lens }) c (admit payload opted))))
+      subst (λ (o : Left3 Numbered WriterSendBuffer (List ℕ) (List ℕ)). Stepped (record { writer = o; readers = cond (isDone (o .result .answer)) (map (told (o .result .number)) (map unsentPartForm (s .lines))) (map unsentPartForm (s .lines)) }) (answerOf (writeRefusals len opted s)) (step (write len opted) s)) (sym is)
+      (go (isDone (answerOf (writeRefusals len opted s))) refl (subst fine is (coherent-step (record { flow = flowForm (s .flow); bytes = store; lens = lens }) c (admit payload opted))))
     where
       by : Bool → ℕ → Flow → Left3 Numbered WriterSendBuffer (List ℕ) (List ℕ)
       by t n g =
-          unless (admitRows t n g opted) (λ no. record { result = noNumber no; first = flowForm (s .flow); second = store; third = lens })
+          unless (admitRows t n g opted) (λ no. record { result = numberedNo no; first = flowForm (s .flow); second = store; third = lens })
           (record {
             result = record { answer = done; number = numberAt (g .last + 1) };
             first = flowForm (admitted g opted);
-            second = over store (startOf g (g .last + 1)) payload;
+            second = withBytes store (slotStart g (g .last + 1)) payload;
             third = set lens (slotOf g (g .last + 1)) n;
           })
 
       is : admitOf (flowForm (s .flow)) store lens payload opted ≡ by true len (s .flow)
-      is = ap (λ (g : Flow). by (isCoherentStore (flowForm (s .flow)) (length store) lens) (length payload) g) (view-form (s .flow) (h .flow)) ∙ ap (λ (t : Bool). by t (length payload) (s .flow)) c ∙ ap (λ (n : ℕ). by true n (s .flow)) el
+      is = ap (λ (g : Flow). by (storeCoherent (flowForm (s .flow)) (length store) lens) (length payload) g) (view-form (s .flow) (h .flow)) ∙ ap (λ (t : Bool). by t (length payload) (s .flow)) c ∙ ap (λ (n : ℕ). by true n (s .flow)) el
 
       fine : Left3 Numbered WriterSendBuffer (List ℕ) (List ℕ) → Type 0
-      fine o = isCoherentStore (o .first) (length (o .second)) (o .third) ≡ true
+      fine o = storeCoherent (o .first) (length (o .second)) (o .third) ≡ true
 
       done-by : Left3 Numbered WriterSendBuffer (List ℕ) (List ℕ)
       done-by =
           record {
             result = record { answer = done; number = numberAt (s .flow .last + 1) };
             first = flowForm (admitted (s .flow) opted);
-            second = over store (startOf (s .flow) (s .flow .last + 1)) payload;
+            second = withBytes store (slotStart (s .flow) (s .flow .last + 1)) payload;
             third = set lens (slotOf (s .flow) (s .flow .last + 1)) len;
           }
 
       not-by : Left3 Numbered WriterSendBuffer (List ℕ) (List ℕ)
-      not-by = record { result = noNumber (answerOf (writeRows len opted s)); first = flowForm (s .flow); second = store; third = lens }
+      not-by = record { result = numberedNo (answerOf (writeRefusals len opted s)); first = flowForm (s .flow); second = store; third = lens }
 
       outcome : Left3 Numbered WriterSendBuffer (List ℕ) (List ℕ) → State → Type 0
-      outcome o s′ = Stepped (record { writer = o; readers = cond (isDone (o .result .answer)) (map (told (o .result .number)) (map keptForm (s .lines))) (map keptForm (s .lines)) }) (answerOf (writeRows len opted s)) s′
+      outcome o s′ = Stepped (record { writer = o; readers = cond (isDone (o .result .answer)) (map (told (o .result .number)) (map unsentPartForm (s .lines))) (map unsentPartForm (s .lines)) }) (answerOf (writeRefusals len opted s)) s′
 
-      go : (t : Bool) → isDone (answerOf (writeRows len opted s)) ≡ t → fine (cond t done-by not-by) → outcome (cond t done-by not-by) (cond t (wrote opted s) s)
+      go : (t : Bool) → isDone (answerOf (writeRefusals len opted s)) ≡ t → fine (cond t done-by not-by) → outcome (cond t done-by not-by) (cond t (wrote opted s) s)
       go true e w =
-          let k = done-clear (writeRows len opted s) e in
-          let d : (s .flow .last ≡ topNumber → ⊥) = eqb-false (s .flow .last) topNumber (k .used-up) in
+          let k = done-clear (writeRefusals len opted s) e in
+          let d : (s .flow .last ≡ topNumber → ⊥) = eqb-false (s .flow .last) topNumber (k 5 refl) in
           record {
-            answer = sym (done-is (answerOf (writeRows len opted s)) (eqb-true (answerOf (writeRows len opted s) .number) 0 e));
+            answer = sym (done-is (writeRefusals len opted s) (answerOf (writeRefusals len opted s)) refl (eqb-true (answerOf (writeRefusals len opted s) .number) 0 e));
             flow = refl;
             number = λ _. refl;
             store = w;
@@ -199,9 +199,9 @@ module _ (s : State) (h : Sound s) where
           record {
             answer = refl;
             flow = refl;
-            number = λ d. clash (isDone (answerOf (writeRows len opted s))) d e;
+            number = λ d. clash (isDone (answerOf (writeRefusals len opted s))) d e;
             store = w;
-            readers = ap (λ (t : Bool). cond t (map (told (numberAt 0)) (map keptForm (s .lines))) (map keptForm (s .lines))) e;
+            readers = ap (λ (t : Bool). cond t (map (told (numberAt 0)) (map unsentPartForm (s .lines))) (map unsentPartForm (s .lines))) e;
           }
 
   -- in place, where the readers' records stand side by side
@@ -209,37 +209,37 @@ module _ (s : State) (h : Sound s) where
   write-called len opted store lens payload hs u el c st room =
       record { answer = w .answer; flow = w .flow; number = w .number; readers = w .readers; room = roomy-after hs u room ok (flowForm (s .flow)) store lens payload opted; store = w .store }
     where
-      all-ok : (ls : List Line) → All (λ l. Valid (l .server)) ls → allOk (map keptForm ls) ≡ true
+      all-ok : (ls : List Line) → All (λ l. Valid (l .server)) ls → allUnsentCoherent (map unsentPartForm ls) ≡ true
       all-ok [] v = refl
-      all-ok (l ∷ ls) v = and-both (unsentOk (proxyOf (l .server)) (unsentRoom (l .server))) (allOk (map keptForm ls)) (unsent-ok (l .server) (v .0)) (all-ok ls (v .1))
+      all-ok (l ∷ ls) v = and-both (unsentCoherent (proxyOf (l .server)) (unsentRoom (l .server))) (allUnsentCoherent (map unsentPartForm ls)) (unsent-ok (l .server) (v .0)) (all-ok ls (v .1))
 
-      ok : allOk (standing hs u) ≡ true
-      ok = ap allOk st ∙ all-ok (s .lines) (found-all (λ l. Valid (l .server)) (s .lines) (h .apart) (λ i l q. h .lines i l q .valid))
+      ok : allUnsentCoherent (standing hs u) ≡ true
+      ok = ap allUnsentCoherent st ∙ all-ok (s .lines) (found-all (λ l. Valid (l .server)) (s .lines) (h .apart) (λ i l q. h .lines i l q .valid))
 
-      w : Stepped (standsAs (writeOf (flowForm (s .flow)) store lens payload opted hs u)) (answerOf (writeRows len opted s)) (step (write len opted) s)
+      w : Stepped (standsAs (writeOf (flowForm (s .flow)) store lens payload opted hs u)) (answerOf (writeRefusals len opted s)) (step (write len opted) s)
       w =
-          subst (λ (o : Written). Stepped o (answerOf (writeRows len opted s)) (step (write len opted) s))
+          subst (λ (o : Written). Stepped o (answerOf (writeRefusals len opted s)) (step (write len opted) s))
           (sym (whole-after hs u room ok (flowForm (s .flow)) store lens payload opted ∙ ap (writeStep (flowForm (s .flow)) store lens payload opted) st))
           (write-stepped len opted store lens payload el c)
 
   -- THE FRONTIERS AND EVICTION
   sent-called : (n : SequenceNumber) → SentCalled n s
-  sent-called n = (is .0, is .1, λ store lens c. subst (λ (f : WriterSendBuffer). isCoherentStore f (length store) lens ≡ true) (is .1) (coherent-step (record { flow = flowForm (s .flow); bytes = store; lens = lens }) c (setSent n)))
+  sent-called n = (is .0, is .1, λ store lens c. subst (λ (f : WriterSendBuffer). storeCoherent f (length store) lens ≡ true) (is .1) (coherent-step (record { flow = flowForm (s .flow); bytes = store; lens = lens }) c (setSent n)))
     where
       out : Bool → Left1 Told WriterSendBuffer
       out t = unless (ranged true t) (λ a. record { result = toldNo a; first = flowForm (s .flow) }) (record { result = record { answer = done; yes = ltb (s .flow .sent) (rankOf n) }; first = flowForm (raised (rankOf n) (s .flow)) })
 
-      go : (t : Bool) → (out t .result .answer ≡ answerOf (ranged true t)) × (out t .first ≡ flowForm (tried (ranged true t) s (withFlow (raised (rankOf n) (s .flow)) s) .flow))
+      go : (t : Bool) → (out t .result .answer ≡ answerOf (ranged true t)) × (out t .first ≡ flowForm (tried (ranged true t) s (stateWithFlow (raised (rankOf n) (s .flow)) s) .flow))
       go true = (refl, refl)
       go false = (refl, refl)
 
-      is : (sentOf (flowForm (s .flow)) n .result .answer ≡ answerOf (sentRows n s)) × (sentOf (flowForm (s .flow)) n .first ≡ flowForm (step (sentTo n) s .flow))
+      is : (sentOf (flowForm (s .flow)) n .result .answer ≡ answerOf (sentRefusals n s)) × (sentOf (flowForm (s .flow)) n .first ≡ flowForm (step (sentTo n) s .flow))
       is =
-          subst (λ (o : Left1 Told WriterSendBuffer). (o .result .answer ≡ answerOf (sentRows n s)) × (o .first ≡ flowForm (step (sentTo n) s .flow))) (sym (does-sent (s .flow) (h .flow) n))
+          subst (λ (o : Left1 Told WriterSendBuffer). (o .result .answer ≡ answerOf (sentRefusals n s)) × (o .first ≡ flowForm (step (sentTo n) s .flow))) (sym (does-sent (s .flow) (h .flow) n))
           (go (unwritten (rankOf n) (s .flow)))
 
   evict-called : (n : SequenceNumber) → EvictCalled n s
-  evict-called n = (is .0, is .1, λ store lens c. subst (λ (f : WriterSendBuffer). isCoherentStore f (length store) lens ≡ true) (is .1) (coherent-step (record { flow = flowForm (s .flow); bytes = store; lens = lens }) c (removeBefore n)))
+  evict-called n = (is .0, is .1, λ store lens c. subst (λ (f : WriterSendBuffer). storeCoherent f (length store) lens ≡ true) (is .1) (coherent-step (record { flow = flowForm (s .flow); bytes = store; lens = lens }) c (evictBefore n)))
     where
       out : Bool → Left1 Answer WriterSendBuffer
       out t = unless (ranged true t) (λ a. record { result = a; first = flowForm (s .flow) }) (record { result = done; first = flowForm (evicted (rankOf n) (s .flow)) })
@@ -248,39 +248,39 @@ module _ (s : State) (h : Sound s) where
       go true = (refl, refl)
       go false = (refl, refl)
 
-      is : (evictOf (flowForm (s .flow)) n .result ≡ answerOf (evictRows n s)) × (evictOf (flowForm (s .flow)) n .first ≡ flowForm (step (evictTo n) s .flow))
+      is : (evictOf (flowForm (s .flow)) n .result ≡ answerOf (evictRefusals n s)) × (evictOf (flowForm (s .flow)) n .first ≡ flowForm (step (evictTo n) s .flow))
       is =
-          subst (λ (o : Left1 Answer WriterSendBuffer). (o .result ≡ answerOf (evictRows n s)) × (o .first ≡ flowForm (step (evictTo n) s .flow))) (sym (does-evict (s .flow) (h .flow) n))
+          subst (λ (o : Left1 Answer WriterSendBuffer). (o .result ≡ answerOf (evictRefusals n s)) × (o .first ≡ flowForm (step (evictTo n) s .flow))) (sym (does-evict (s .flow) (h .flow) n))
           (go (ahead (rankOf n) (s .flow)))
 
   -- THE OTHER CALLS
-  call-called : (i : ℕ) (c : Call) → CallCalled i c s
+  call-called : (i : ℕ) (c : ReaderCall) → CallCalled i c s
   call-called i c l e =
-      subst (λ (o : Option Line). Then i (called i c o s) (λ l′. calledOn (foundOf (listForm (s .heads)) i) c (numberAt (s .flow .last)) (form (l .server)) ≡ record { answer = answerOf rows; left = form (l′ .server) })) (sym e)
+      subst (λ (o : Option Line). Then i (called i c o s) (λ l′. calledOn (foundOf (listForm (s .heads)) i) c (numberAt (s .flow .last)) (recordForm (l .server)) ≡ record { answer = answerOf rows; left = recordForm (l′ .server) })) (sym e)
       (go (isDone (answerOf rows)) refl (does-call (l .server) (h .lines i l e .valid) (s .flow .last) (h .flow .last-most) (foundOf (listForm (s .heads)) i) (looked-done s h i known) c))
     where
       looked : Found
       looked = foundOf (listForm (s .heads)) i
 
-      known : unknown i (s .heads) ≡ false
+      known : idUnknown i (s .heads) ≡ false
       known = λ j. ne-eqb i 0 (h .held i l e .some-id) j || not (h .held i l e .there j)
 
       rows : Rows
       rows = callRows (s .flow .last) c (l .server)
 
       go : (t : Bool) → isDone (answerOf rows) ≡ t
-          → calledOn looked c (numberAt (s .flow .last)) (form (l .server)) ≡ cond {A = Outcome} t (record { answer = done; left = form (result c (l .server)) }) (record { answer = answerOf rows; left = form (l .server) })
-          → Then i (cond t (withLines (upd i (onServer (result c)) (s .lines)) s) s) (λ l′. calledOn looked c (numberAt (s .flow .last)) (form (l .server)) ≡ record { answer = answerOf rows; left = form (l′ .server) })
+          → calledOn looked c (numberAt (s .flow .last)) (recordForm (l .server)) ≡ cond {A = Outcome} t (record { answer = done; left = recordForm (result c (l .server)) }) (record { answer = answerOf rows; left = recordForm (l .server) })
+          → Then i (cond t (withLines (upd i (onServer (result c)) (s .lines)) s) s) (λ l′. calledOn looked c (numberAt (s .flow .last)) (recordForm (l .server)) ≡ record { answer = answerOf rows; left = recordForm (l′ .server) })
       go true d q = (
         onServer (result c) l,
         find-same i (onServer (result c)) (λ x. refl) (s .lines) l e,
-        q ∙ ap (λ (a : Answer). record { answer = a; left = form (result c (l .server)) }) (sym (done-is (answerOf rows) (eqb-true (answerOf rows .number) 0 d))),
+        q ∙ ap (λ (a : Answer). record { answer = a; left = recordForm (result c (l .server)) }) (sym (done-is rows (answerOf rows) refl (eqb-true (answerOf rows .number) 0 d))),
       )
       go false d q = (l, e, q)
 
   -- THE HEARTBEAT'S NUMBER
   beat-called : lastOf (flowForm (s .flow)) ≡ record { answer = done; number = numberAt (s .flow .last) }
-  beat-called = ap (λ (t : Bool). unless (ranged t false) noNumber (record { answer = done; number = numberAt (s .flow .last) })) (flow-coherent (s .flow) (h .flow))
+  beat-called = ap (λ (t : Bool). unless (ranged t false) numberedNo (record { answer = done; number = numberAt (s .flow .last) })) (flow-coherent (s .flow) (h .flow))
 
   pub as-called : (e : Event) → AsCalled e s
   as-called (match i r m) = match-called s h i r m

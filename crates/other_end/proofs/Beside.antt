@@ -13,15 +13,14 @@ use borrow.Author.Tests.{eqb-true, eqb-false, ne-eqb}
 use Rattle.sets.specs.Sets.{without}
 use Rattle.sets.proofs.Bools.{clash, decide}
 use Rattle.numbers.specs.Number.{rankOf}
-use Rattle.numbers.specs.Refusals.{answerOf, isDone}
-use Rattle.numbers.specs.declared.answer.Rows.{Rows}
+use Rattle.numbers.specs.Refusals.{answerOf, isDone, Rows}
 use Rattle.number_sets.specs.Bits.{members}
 use Rattle.rtps_reader_proxy.specs.Reader.{acknowledge, markedSent}
 use Rattle.reader_list.specs.Readers.{isThere}
 use Rattle.writer_send_buffer.specs.Flow.{raised, retained}
 use Rattle.other_end.specs.Model.{gotData, gotGap, gotBeat, ackNack}
-use Rattle.other_end.specs.Calls.{Call, result, callRows}
-use Rattle.other_end.specs.System.{Line, Body, sample, gap, beat, ack, Msg, State, Event, match, depart, write, sentTo, evictTo, call, heartbeat, send, reply, deliver, find, upd, nth, onServer, onModel, withLines, withFlow, post, tried, matchRows, departRows, newcomer, joined, left, ackRows, acknowledges, called, sentRows, evictRows, evicts, arrive, arrives, sendFirst, sendTo, beatTo, replyFrom, step, run}
+use Rattle.other_end.specs.Calls.{ReaderCall, result, callRows}
+use Rattle.other_end.specs.System.{Line, Body, sample, gap, beat, ack, Msg, State, Event, match, depart, write, sentTo, evictTo, call, heartbeat, send, reply, deliver, find, upd, nth, onServer, onModel, withLines, stateWithFlow, post, tried, matchRefusals, departRefusals, newcomer, lineMatched, lineDeparted, ackRefusals, acknowledges, called, sentRefusals, evictRefusals, evicts, arrive, arrives, sendFirst, sendTo, beatTo, replyFrom, step, run}
 use Rattle.other_end.specs.Rounds.{Elsewhere, Beside, Each, Carried}
 use Rattle.other_end.proofs.Found.{find-same, find-other, find-stays}
 use Rattle.other_end.proofs.Calls.{done-clear, both-false}
@@ -83,12 +82,12 @@ module _ (i : ℕ) (l : Line) (n : ℕ) (s : State) (h : Sound s) (a : At i l n 
       go false e = unmoved
 
   -- no id is matched while it is there, so a match that is done is another's
-  pub match-other : (j m : ℕ) → isDone (answerOf (matchRows j m s)) ≡ true → eqb i j ≡ false
+  pub match-other : (j m : ℕ) → isDone (answerOf (matchRefusals j m s)) ≡ true → eqb i j ≡ false
   match-other j m d =
-      let absent = both-false (eqb j 0) (isThere j (s .heads)) (done-clear (matchRows j m s) d .reader) .1 in
+      let absent = both-false (eqb j 0) (isThere j (s .heads)) (done-clear (matchRefusals j m s) d 11 refl) .1 in
       ne-eqb i j (λ (q : i ≡ j). clash (isThere j (s .heads)) (subst (λ (k : ℕ). isThere k (s .heads) ≡ true) q (h .held i l (a .found) .there)) absent)
 
-  aside-match : (j : ℕ) (r : Bool) (m : ℕ) → isDone (answerOf (matchRows j m s)) ≡ true → Aside i l n (s .net) (joined j r m s)
+  aside-match : (j : ℕ) (r : Bool) (m : ℕ) → isDone (answerOf (matchRefusals j m s)) ≡ true → Aside i l n (s .net) (lineMatched j r m s)
   aside-match j r m d =
       record { at = record { found = ap (λ (t : Bool). cond t (some (newcomer j r m s)) (find i (s .lines))) (match-other j m d) ∙ a .found; last = a .last }; grows = inl refl }
 
@@ -100,10 +99,10 @@ module _ (i : ℕ) (l : Line) (n : ℕ) (s : State) (h : Sound s) (a : At i l n 
     aside-model : (g : Line → Line) → ((x : Line) → g x .id ≡ x .id) → Aside i l n (s .net) (withLines (upd j g (s .lines)) s)
     aside-model g keeps = record { at = record { found = others g keeps; last = a .last }; grows = inl refl }
 
-    aside-depart : Aside i l n (s .net) (left j s)
+    aside-depart : Aside i l n (s .net) (lineDeparted j s)
     aside-depart = record { at = record { found = find-stays j i d (s .lines) ∙ a .found; last = a .last }; grows = inl refl }
 
-    aside-call : (c : Call) (o : Option Line) → Aside i l n (s .net) (called j c o s)
+    aside-call : (c : ReaderCall) (o : Option Line) → Aside i l n (s .net) (called j c o s)
     aside-call c none = unmoved
     aside-call c (some x) =
         aside-tried (callRows (s .flow .last) c (x .server)) (withLines (upd j (onServer (result c)) (s .lines)) s) (λ ok. aside-model (onServer (result c)) (λ y. refl))
@@ -122,7 +121,7 @@ module _ (i : ℕ) (l : Line) (n : ℕ) (s : State) (h : Sound s) (a : At i l n 
     aside-arrive (gap k) = aside-model (onModel (gotGap k)) (λ y. refl)
     aside-arrive (beat k) = aside-model (onModel (gotBeat k)) (λ y. refl)
     aside-arrive (ack z) =
-        aside-tried (ackRows j z s) (acknowledges j z s)
+        aside-tried (ackRefusals j z s) (acknowledges j z s)
         (λ ok. record { at = record { found = others (onServer (acknowledge (s .flow .last) (z .base) (members z))) (λ y. refl); last = a .last }; grows = inl refl })
 
   -- a heartbeat and an ACKNACK, of any line, only come into the network
@@ -142,11 +141,11 @@ module _ (i : ℕ) (l : Line) (n : ℕ) (s : State) (h : Sound s) (a : At i l n 
   aside-arrives (some m) d = aside-arrive (m .line) d (m .body)
 
   pub aside : (e : Event) → Beside i e s → (e ≡ send i) ⊎ Aside i l n (s .net) (step e s)
-  aside (match j r m) d = inr (aside-tried (matchRows j m s) (joined j r m s) (aside-match j r m))
-  aside (depart j) d = inr (aside-tried (departRows j s) (left j s) (λ ok. aside-depart j d))
+  aside (match j r m) d = inr (aside-tried (matchRefusals j m s) (lineMatched j r m s) (aside-match j r m))
+  aside (depart j) d = inr (aside-tried (departRefusals j s) (lineDeparted j s) (λ ok. aside-depart j d))
   aside (write len opted) d = absurd d
-  aside (sentTo k) d = inr (aside-tried (sentRows k s) (withFlow (raised (rankOf k) (s .flow)) s) (λ ok. record { at = record { found = a .found; last = a .last }; grows = inl refl }))
-  aside (evictTo k) d = inr (aside-tried (evictRows k s) (evicts (rankOf k) s) (λ ok. record { at = record { found = a .found; last = a .last }; grows = inl refl }))
+  aside (sentTo k) d = inr (aside-tried (sentRefusals k s) (stateWithFlow (raised (rankOf k) (s .flow)) s) (λ ok. record { at = record { found = a .found; last = a .last }; grows = inl refl }))
+  aside (evictTo k) d = inr (aside-tried (evictRefusals k s) (evicts (rankOf k) s) (λ ok. record { at = record { found = a .found; last = a .last }; grows = inl refl }))
   aside (call j c) d = inr (aside-call j d c (find j (s .lines)))
   aside (heartbeat j) d = inr (aside-beat j (find j (s .lines)))
   aside (send j) d = whose (decide (eqb j i))

@@ -16,7 +16,7 @@ use Rattle.other_end.specs.Model.{base}
 use Rattle.other_end.specs.System.{Line, State, find, start}
 use Rattle.other_end.specs.Rounds.{Round, Rounds, cleanRound, cleanRounds}
 use Rattle.other_end.specs.Coherent.{Coherent}
-use Rattle.other_end.specs.Demand3.{Reached, Present, Kept, HasData, HasSettled, StaysKept, Moved, roundsFor, Demand3}
+use Rattle.other_end.specs.Demand3.{Reached, Present, Kept, HasData, HasSettled, StaysKept, MovedOn, roundsFor, Demand3}
 use Rattle.other_end.proofs.Gaps.{gap-ge, gap-all, gap-not}
 use Rattle.other_end.proofs.Heads.{frontier-low}
 use Rattle.other_end.proofs.Forms.{list-coherent}
@@ -93,7 +93,7 @@ module _ (s : State) (i : ℕ) (l : Line) (p : Present s i l) where
       )
 
   round : (s′ : State) → Round i s s′
-      → (l′ : Line) × Present s′ i l′ × (s′ .flow .last ≡ s .flow .last) × (l′ .server .cap ≡ l .server .cap) × Moved (s .flow .last) l l′ × StaysKept s s′ i l l′
+      → (l′ : Line) × Present s′ i l′ × (s′ .flow .last ≡ s .flow .last) × (l′ .server .cap ≡ l .server .cap) × MovedOn (s .flow .last) l l′ × StaysKept s s′ i l l′
   round s′ d =
       let m = round-moves i l (s .flow .last) s s′ (sound s (p .reached)) (record { found = p .there; last = refl }) (p .anew) d in
       let w = stays s i l p s′ (m .0) (runs-round i s s′ d) (m .1) (m .3) in

@@ -13,15 +13,15 @@ use borrow.Author.Tests.{eqb-true, ne-eqb, le-ltb}
 use Rattle.sets.specs.Sets.{has, insert, without}
 use Rattle.sets.proofs.Bools.{or-right, and-both, decide}
 use Rattle.sets.proofs.Has.{has-insert, has-without}
-use Rattle.numbers.specs.Refusals.{row, rowsOf}
+use Rattle.numbers.specs.Refusals.{row}
 use Rattle.number_sets.specs.Bits.{NumberSet, members}
 use Rattle.rtps_reader_proxy.specs.Reader.{baseOf, isAhead, acknowledge, markedSent}
 use Rattle.reader_list.specs.Readers.{isThere}
-use Rattle.reader_list.specs.Slots.{unknown}
+use Rattle.reader_list.specs.Slots.{idUnknown}
 use Rattle.writer_send_buffer.specs.Flow.{retained}
-use Rattle.other_end.specs.Model.{Model, gotData, gotGap, gotBeat, base, bits, asked, ackNack}
+use Rattle.other_end.specs.Model.{Model, gotData, gotGap, gotBeat, base, bits, modelAsks, ackNack}
 use Rattle.other_end.specs.System.{Line, Body, sample, gap, beat, ack, Msg, State, Event, heartbeat, send, reply, upd, nth, onServer, onModel, withLines, post, tried, acknowledges, arrive, arrives, beatTo, replyFrom, step, run}
-use Rattle.other_end.specs.Rounds.{Each, Carried, Outward, Allowed, SettledAt, Received}
+use Rattle.other_end.specs.Rounds.{Each, Carried, Outward, RoundEvent, SettledAt, Received}
 use Rattle.other_end.proofs.Gaps.{asks}
 use Rattle.other_end.proofs.Found.{find-same}
 use Rattle.other_end.proofs.Records.{Above}
@@ -31,7 +31,7 @@ use Rattle.other_end.proofs.Runs.{sound-step}
 use Rattle.other_end.proofs.Beside.{Same, same, same-on, Sent, At, send-is, send-none, Grown, Aside, aside, Idle, carried-at}
 
 -- no row of an ACKNACK holds
-ack-done : (a b c : Bool) (x y : State) → a ≡ false → b ≡ false → c ≡ false → tried (rowsOf (row 3 a ∷ row 11 b ∷ row 12 c ∷ [])) x y ≡ y
+ack-done : (a b c : Bool) (x y : State) → a ≡ false → b ≡ false → c ≡ false → tried (row 3 refl a ∷ row 11 refl b ∷ row 12 refl c ∷ []) x y ≡ y
 ack-done false false false x y p q r = refl
 ack-done true b c x y p q r = absurd (true≢false p)
 ack-done false true c x y p q r = absurd (true≢false q)
@@ -42,9 +42,9 @@ module _ (i : ℕ) (l : Line) (n : ℕ) (s : State) (a : At i l n s) where
   at-beat = record { found = find-same i (onModel (gotBeat n)) (λ x. refl) (s .lines) l (a .found); last = a .last }
 
   -- the ACKNACK of a line whose id stands in the list is taken
-  at-ack : Sound s → base (l .model) ≤ suc n → At i (onServer (acknowledge n (base (l .model)) (asked (l .model))) l) n (arrive i (ack (ackNack (l .model))) s)
+  at-ack : Sound s → base (l .model) ≤ suc n → At i (onServer (acknowledge n (base (l .model)) (modelAsks (l .model))) l) n (arrive i (ack (ackNack (l .model))) s)
   at-ack h q =
-      subst (λ (y : State). At i l′ n y) (sym (ack-done (ltb 256 (bits (l .model))) (unknown i (s .heads)) (isAhead (s .flow .last) b) s (acknowledges i z s) (le-ltb 256 (bits (l .model)) (omega arith)) known near))
+      subst (λ (y : State). At i l′ n y) (sym (ack-done (ltb 256 (bits (l .model))) (idUnknown i (s .heads)) (isAhead (s .flow .last) b) s (acknowledges i z s) (le-ltb 256 (bits (l .model)) (omega arith)) known near))
       (record {
         found =
             find-same i (onServer (acknowledge (s .flow .last) b (members z))) (λ x. refl) (s .lines) l (a .found)
@@ -60,9 +60,9 @@ module _ (i : ℕ) (l : Line) (n : ℕ) (s : State) (a : At i l n s) where
       z = ackNack (l .model)
 
       l′ : Line
-      l′ = onServer (acknowledge n (base (l .model)) (asked (l .model))) l
+      l′ = onServer (acknowledge n (base (l .model)) (modelAsks (l .model))) l
 
-      known : unknown i (s .heads) ≡ false
+      known : idUnknown i (s .heads) ≡ false
       known = let o = h .held i l (a .found) in ap (λ (t : Bool). t || not (isThere i (s .heads))) (ne-eqb i 0 (o .some-id)) ∙ ap not (o .there)
 
       near : isAhead (s .flow .last) (base (l .model)) ≡ false
@@ -73,7 +73,7 @@ abbrev pub beaten : ℕ → Line → Line
 beaten n l = onModel (gotBeat n) l
 
 abbrev pub replied : ℕ → Line → Line
-replied n l = onServer (acknowledge n (base (l .model)) (asked (l .model))) l
+replied n l = onServer (acknowledge n (base (l .model)) (modelAsks (l .model))) l
 
 -- an ACKNACK is taken: the line that sent it was l, and is `line` by then, since numbers may have been sent to it meanwhile
 pub record Replied (i : ℕ) (l : Line) (n : ℕ) (s : State) : Type 0 where
@@ -216,7 +216,7 @@ module _ (i n old : ℕ) (l₁ : Line) where
   moving-arrive (beat x) s o h = moving-learn s h (gotBeat x) (λ m y w. w) (λ m. omega arith)
   moving-arrive (ack z) s o h = absurd o
 
-  moving-step : (e : Event) (s : State) → Allowed i e s → Sound s → Moving i n old l₁ s → Moving i n old l₁ (step e s)
+  moving-step : (e : Event) (s : State) → RoundEvent i e s → Sound s → Moving i n old l₁ s → Moving i n old l₁ (step e s)
   moving-step e s (inl d) hs h = go (aside i (h .line) n s hs (h .at) e d)
     where
       go : (e ≡ send i) ⊎ Aside i (h .line) n (s .net) (step e s) → Moving i n old l₁ (step e s)
@@ -226,7 +226,7 @@ module _ (i n old : ℕ) (l₁ : Line) where
       let is : step e s ≡ arrive i (d .body) s = ap (λ (e : Event). step e s) (d .delivers) ∙ ap (λ (o : Option Msg). arrives o s) (d .that) in
       subst (Moving i n old l₁) (sym is) (moving-arrive (d .body) s (d .outward) h)
 
-  pub moving-run : (es : List Event) (s : State) → Each (Allowed i) es s → Sound s → Moving i n old l₁ s → Moving i n old l₁ (run es s)
+  pub moving-run : (es : List Event) (s : State) → Each (RoundEvent i) es s → Sound s → Moving i n old l₁ s → Moving i n old l₁ (run es s)
   moving-run [] s x hs h = h
   moving-run (e ∷ es) s x hs h = moving-run es (step e s) (x .1) (sound-step s hs e) (moving-step e s (x .0) hs h)
 

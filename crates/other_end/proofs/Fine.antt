@@ -11,7 +11,7 @@ use borrow.Author.Tests.{ltb-false}
 use Rattle.sets.specs.Sets.{has, From, insert}
 use Rattle.sets.proofs.Bools.{or-right, decide}
 use Rattle.sets.proofs.Has.{has-insert, From-insert, From-only}
-use Rattle.numbers.specs.Number.{topNumber}
+use Rattle.numbers.specs.Capacities.{topNumber}
 use Rattle.numbers.specs.Refusals.{answerOf, isDone}
 use Rattle.number_sets.specs.Bits.{NumberSet, members}
 use Rattle.number_sets.proofs.Meaning.{members-rise}
@@ -20,7 +20,7 @@ use Rattle.reader_record.specs.Whole.{Valid}
 use Rattle.reader_record.proofs.Kept.{notified-valid, marked-valid, acknowledged-valid}
 use Rattle.writer_send_buffer.specs.Flow.{Flow}
 use Rattle.other_end.specs.Model.{gapFrom, gotData, gotGap, gotBeat, base}
-use Rattle.other_end.specs.Calls.{Call, result, callRows}
+use Rattle.other_end.specs.Calls.{ReaderCall, result, callRows}
 use Rattle.other_end.specs.System.{Line, Body, sample, gap, beat, ack, Msg, nth, onServer, onModel}
 use Rattle.other_end.proofs.Gaps.{gap-ge, gap-le, gap-mono}
 use Rattle.other_end.proofs.Found.{some-msg}
@@ -160,7 +160,7 @@ module _ (f : Flow) (c : Bool) (net : List Msg) (l : Line) (h : Fine f c net l) 
       fine-server (markedSent n) refl (marked-valid (l .server) (h .valid) n) (within-only (f .last) (l .server) (h .within) (λ k. not (eqb n k)))
       (From-only (max 1 (l .server .acked)) (λ k. not (eqb n k)) (l .server .unsent) (h .above))
 
-  pub fine-call : (d : Call) → f .last ≤ topNumber → isDone (answerOf (callRows (f .last) d (l .server))) ≡ true → Fine f c net (onServer (result d) l)
+  pub fine-call : (d : ReaderCall) → f .last ≤ topNumber → isDone (answerOf (callRows (f .last) d (l .server))) ≡ true → Fine f c net (onServer (result d) l)
   fine-call d q e =
       fine-server (result d) (call-acked d (l .server)) (valid-call (f .last) (l .server) (h .valid) d q e) (within-call d (f .last) (l .server) (h .within)) (above-call d (l .server) (h .above))
 

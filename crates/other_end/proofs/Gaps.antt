@@ -15,7 +15,7 @@ use Rattle.sets.proofs.Has.{lt-of-le-of-ne, From-low}
 use Rattle.sets.proofs.Those.{has-those, has-those-is, From-those}
 use Rattle.number_sets.specs.Bits.{members}
 use Rattle.number_sets.proofs.Meaning.{made-is}
-use Rattle.other_end.specs.Model.{gapFrom, missing, Model, base, bits, asked, ackNack}
+use Rattle.other_end.specs.Model.{gapFrom, missing, Model, base, bits, modelAsks, ackNack}
 
 pub gap-ge : (b : ℕ) (l : List ℕ) → b ≤ gapFrom b l
 gap-ge b [] = le-refl b
@@ -61,10 +61,10 @@ pub has-missing : (k b : ℕ) (l : List ℕ) (n : ℕ) → b ≤ n → n < b + k
 has-missing k b l n p q e = has-those k b (λ m. not (has l m)) n p q (ap not e)
 
 -- THE ACKNACK: read back from its words, it asks for all that is missing, and for nothing else
-pub asks : (m : Model) → members (ackNack m) ≡ asked m
-asks m = made-is (base m) (bits m) (asked m) (omega arith) (From-those (bits m) (base m) (λ n. not (has (m .settled) n))) top
+pub asks : (m : Model) → members (ackNack m) ≡ modelAsks m
+asks m = made-is (base m) (bits m) (modelAsks m) (omega arith) (From-those (bits m) (base m) (λ n. not (has (m .settled) n))) top
   where
-    top : (n : ℕ) → has (asked m) n ≡ true → n < base m + bits m
+    top : (n : ℕ) → has (modelAsks m) n ≡ true → n < base m + bits m
     top n e =
         let w = sym (has-those-is (bits m) (base m) (λ x. not (has (m .settled) x)) n) ∙ e in
         ltb-true n (base m + bits m) (and-right (leb (base m) n) (ltb n (base m + bits m)) (and-left (leb (base m) n && ltb n (base m + bits m)) (not (has (m .settled) n)) w))

@@ -15,13 +15,13 @@ use Rattle.numbers.proofs.Refused.{Clear}
 use Rattle.number_sets.specs.Bits.{NumberSet, members}
 use Rattle.rtps_reader_proxy.specs.Reader.{baseOf, ackedAfter, acknowledge}
 use Rattle.reader_record.proofs.Kept.{fresh-valid}
-use Rattle.reader_list.specs.Readers.{Head, free, frontier, placeOf, isThere, headAt, matched, departed}
+use Rattle.reader_list.specs.Readers.{Head, free, frontier, placeOfId, isThere, headAt, matched, departed}
 use Rattle.reader_list.proofs.Kept.{fits-matched, fits-departed, fits-acknowledged}
 use Rattle.writer_send_buffer.specs.Flow.{Flow, ahead, stored}
 use Rattle.writer_send_buffer.proofs.Sound.{Fits}
 use Rattle.writer_send_buffer.proofs.Steps.{fits-stored}
 use Rattle.other_end.specs.Model.{base}
-use Rattle.other_end.specs.System.{Line, State, match, find, upd, dropped, headOf, onServer, matchRows, newcomer, joined, left, ackRows, ackedHeads, acknowledges}
+use Rattle.other_end.specs.System.{Line, State, match, find, upd, dropped, lineHead, onServer, matchRefusals, newcomer, lineMatched, lineDeparted, ackRefusals, ackedHeads, acknowledges}
 use Rattle.other_end.proofs.Found.{some-line, find-id, find-upd, find-stays, find-left, find-kept, apart-upd, apart-dropped}
 use Rattle.other_end.proofs.Heads.{there-other, head-other, set-own, known-is, is-known, gone, fits-different, frontier-at, Low, low-set, low-at, frontier-low}
 use Rattle.other_end.proofs.Records.{within-fresh}
@@ -42,13 +42,13 @@ flow-stored : (f : Flow) → Fits f → (a : ℕ) → a ≤ suc (f .last) → Fi
 flow-stored f h a q = fits-stored f h a (le-ltb (f .last + 1) a (omega arith))
 
 module _ (s : State) (h : Sound s) where
-  pub sound-joined : (i : ℕ) (r : Bool) (m : ℕ) → isDone (answerOf (matchRows i m s)) ≡ true → Sound (joined i r m s)
+  pub sound-joined : (i : ℕ) (r : Bool) (m : ℕ) → isDone (answerOf (matchRefusals i m s)) ≡ true → Sound (lineMatched i r m s)
   sound-joined i r m d =
       record {
         lines = λ j l e. each j l (eqb j i) refl e (stands j l e);
         held = stands;
         flow = flow′;
-        list = fits-matched (s .heads) (h .list) i r (c .reader);
+        list = fits-matched (s .heads) (h .list) i r (c 11 refl);
         low = low′;
         ids = λ j l e. known j l (eqb j i) refl e;
         tags = λ k p e. or-right (eqb i (p .line)) (has (s .used) (p .line)) (h .tags k p e);
@@ -57,32 +57,32 @@ module _ (s : State) (h : Sound s) where
         apart = (fresh-id (find i (s .lines)) refl, h .apart);
       }
     where
-      c : Clear (matchRows i m s)
-      c = done-clear (matchRows i m s) d
+      c : Clear (matchRefusals i m s)
+      c = done-clear (matchRefusals i m s) d
 
       cap : (leb 1 m && leb m 1024) ≡ true
-      cap = not-false (leb 1 m && leb m 1024) (c .limit)
+      cap = not-false (leb 1 m && leb m 1024) (c 13 refl)
 
       nonzero : i ≡ 0 → ⊥
-      nonzero = eqb-false i 0 (both-false (eqb i 0) (isThere i (s .heads)) (c .reader) .0)
+      nonzero = eqb-false i 0 (both-false (eqb i 0) (isThere i (s .heads)) (c 11 refl) .0)
 
       absent : isThere i (s .heads) ≡ false
-      absent = both-false (eqb i 0) (isThere i (s .heads)) (c .reader) .1
+      absent = both-false (eqb i 0) (isThere i (s .heads)) (c 11 refl) .1
 
       roomy : isThere 0 (s .heads) ≡ true
-      roomy = not-false (isThere 0 (s .heads)) (c .readers-full)
+      roomy = not-false (isThere 0 (s .heads)) (c 8 refl)
 
       x : Head
-      x = record { id = i; reliable = r; acked = 0 }
+      x = record { id = i; reliable = r; acked = 0; below = false }
 
       new : Line
       new = newcomer i r m s
 
       f′ : Flow
-      f′ = joined i r m s .flow
+      f′ = lineMatched i r m s .flow
 
       low′ : Low (s .flow .last) (matched i r (s .heads))
-      low′ = low-set (s .flow .last) (s .heads) (placeOf 0 (s .heads)) x (omega arith) (h .low)
+      low′ = low-set (s .flow .last) (s .heads) (placeOfId 0 (s .heads)) x (omega arith) refl (h .low)
 
       flow′ : Fits f′
       flow′ = flow-stored (s .flow) (h .flow) (frontier (matched i r (s .heads))) (frontier-low (s .flow .last) (matched i r (s .heads)) low′)
@@ -96,7 +96,7 @@ module _ (s : State) (h : Sound s) where
           go : (t : Bool) → eqb j i ≡ t → cond t (some new) (find j (s .lines)) ≡ some l → Held (matched i r (s .heads)) j l
           go true q e =
               subst (λ (k : ℕ). Held (matched i r (s .heads)) k l) (sym (eqb-true j i q))
-              (record { some-id = nonzero; there = own .0; head = own .1 ∙ ap headOf (some-line e) })
+              (record { some-id = nonzero; there = own .0; head = own .1 ∙ ap lineHead (some-line e) })
           go false q e =
               let o = h .held j l e in
               let a : 0 ≡ j → ⊥ = λ (z : 0 ≡ j). o .some-id (sym z) in
@@ -138,7 +138,7 @@ module _ (s : State) (h : Sound s) where
       known j l true q e = ap (λ (t : Bool). t || has (s .used) j) (eq-eqb i j (sym (eqb-true j i q)))
       known j l false q e = or-right (eqb i j) (has (s .used) j) (h .ids j l e)
 
-  pub sound-left : (i : ℕ) → Sound (left i s)
+  pub sound-left : (i : ℕ) → Sound (lineDeparted i s)
   sound-left i =
       record {
         lines = λ j l e. let w = find-left i j (s .lines) l e in fine-flow (s .flow) (s .careful) (s .net) l (h .lines j l (w .1)) f′ (s .careful) refl (λ t. t) (front-stored (s .flow) (departed i (s .heads)) j l (stands j l e)) (λ t k. h .lines j l (w .1) .kept t k .0);
@@ -163,10 +163,10 @@ module _ (s : State) (h : Sound s) where
           (w .0, find-stays i j d (s .lines) ∙ w .1)
 
       f′ : Flow
-      f′ = left i s .flow
+      f′ = lineDeparted i s .flow
 
       low′ : Low (s .flow .last) (departed i (s .heads))
-      low′ = low-set (s .flow .last) (s .heads) (placeOf i (s .heads)) free (omega arith) (h .low)
+      low′ = low-set (s .flow .last) (s .heads) (placeOfId i (s .heads)) free (omega arith) refl (h .low)
 
       stands : (j : ℕ) (l : Line) → find j (dropped i (s .lines)) ≡ some l → Held (departed i (s .heads)) j l
       stands j l e =
@@ -176,13 +176,13 @@ module _ (s : State) (h : Sound s) where
           record { some-id = o .some-id; there = there-other i j free (w .0) b (s .heads) ∙ o .there; head = head-other i j free (w .0) b (s .heads) ∙ o .head }
 
   pub sound-ack : (i : ℕ) (z : NumberSet) → ((l : Line) (j : ℕ) → find j (s .lines) ≡ some l → i ≡ l .id → l .anew ≡ true → z .base ≤ base (l .model))
-      → isDone (answerOf (ackRows i z s)) ≡ true → Sound (acknowledges i z s)
+      → isDone (answerOf (ackRefusals i z s)) ≡ true → Sound (acknowledges i z s)
   sound-ack i z g d =
       record {
         lines = λ j l′ e. let w = find-upd i j up (λ l. refl) (s .lines) l′ e in each j l′ (w .0) (stands j l′ e) (w .1) (w .2);
         held = stands;
         flow = flow-stored (s .flow) (h .flow) (frontier hs′) (frontier-low (s .flow .last) hs′ low′);
-        list = fits-acknowledged (s .heads) (h .list) i (ackedAfter (headAt i (s .heads) .acked) (z .base)) (c .reader);
+        list = fits-acknowledged (s .heads) (h .list) i (ackedAfter (headAt i (s .heads) .acked) (z .base)) (c 11 refl);
         low = low′;
         ids = λ j l′ e. let w = find-upd i j up (λ l. refl) (s .lines) l′ e in h .ids j (w .0) (w .1);
         tags = h .tags;
@@ -194,11 +194,11 @@ module _ (s : State) (h : Sound s) where
       up : Line → Line
       up = onServer (acknowledge (s .flow .last) (z .base) (members z))
 
-      c : Clear (ackRows i z s)
-      c = done-clear (ackRows i z s) d
+      c : Clear (ackRefusals i z s)
+      c = done-clear (ackRefusals i z s) d
 
       u : (eqb i 0 ≡ false) × (not (isThere i (s .heads)) ≡ false)
-      u = both-false (eqb i 0) (not (isThere i (s .heads))) (c .reader)
+      u = both-false (eqb i 0) (not (isThere i (s .heads))) (c 11 refl)
 
       nonzero : i ≡ 0 → ⊥
       nonzero = eqb-false i 0 (u .0)
@@ -207,16 +207,16 @@ module _ (s : State) (h : Sound s) where
       here = not-false (isThere i (s .heads)) (u .1)
 
       near : baseOf (z .base) ≤ suc (s .flow .last)
-      near = ltb-false (suc (s .flow .last)) (baseOf (z .base)) (c .ahead)
+      near = ltb-false (suc (s .flow .last)) (baseOf (z .base)) (c 12 refl)
 
       x : Head
-      x = record { id = i; reliable = headAt i (s .heads) .reliable; acked = ackedAfter (headAt i (s .heads) .acked) (z .base) }
+      x = record { id = i; reliable = headAt i (s .heads) .reliable; acked = ackedAfter (headAt i (s .heads) .acked) (z .base); below = false }
 
       hs′ : List Head
       hs′ = ackedHeads i z s
 
       low′ : Low (s .flow .last) (ackedHeads i z s)
-      low′ = low-set (s .flow .last) (s .heads) (placeOf i (s .heads)) x (omega (arith, near, low-at (s .flow .last) (s .heads) (placeOf i (s .heads)) (h .low))) (h .low)
+      low′ = low-set (s .flow .last) (s .heads) (placeOfId i (s .heads)) x (omega (arith, near, low-at (s .flow .last) (s .heads) (placeOfId i (s .heads)) (h .low))) refl (h .low)
 
       knew : (j : ℕ) (t : Bool) → eqb i j ≡ t → ((j ≡ 0) → ⊥) × (isThere j (ackedHeads i z s) ≡ true) → (l : Line) × (find j (s .lines) ≡ some l)
       knew j true q k = h .known j (is-known j (s .heads) (k .0) (subst (λ (n : ℕ). isThere n (s .heads) ≡ true) (eqb-true i j q) here))
@@ -232,14 +232,14 @@ module _ (s : State) (h : Sound s) where
           go l e (inl w) =
               let o = h .held j l e in
               let q : i ≡ j = w .0 ∙ find-id j (s .lines) l e in
-              let a : headAt i (s .heads) ≡ headOf l = subst (λ (k : ℕ). headAt k (s .heads) ≡ headOf l) (sym q) (o .head) in
-              let v : x ≡ headOf (onServer (acknowledge (s .flow .last) (z .base) (members z)) l) =
-              ap (λ (y : Head). record { id = i; reliable = y .reliable; acked = ackedAfter (y .acked) (z .base) }) a
-              ∙ ap (λ (k : ℕ). record { id = k; reliable = l .reliable; acked = ackedAfter (l .server .acked) (z .base) }) (w .0) in
-              subst (λ (k : ℕ). Held (ackedHeads i z s) k l′) q (record { some-id = nonzero; there = own .0; head = own .1 ∙ v ∙ ap headOf (sym (w .1)) })
+              let a : headAt i (s .heads) ≡ lineHead l = subst (λ (k : ℕ). headAt k (s .heads) ≡ lineHead l) (sym q) (o .head) in
+              let v : x ≡ lineHead (onServer (acknowledge (s .flow .last) (z .base) (members z)) l) =
+              ap (λ (y : Head). record { id = i; reliable = y .reliable; acked = ackedAfter (y .acked) (z .base); below = false }) a
+              ∙ ap (λ (k : ℕ). record { id = k; reliable = l .reliable; acked = ackedAfter (l .server .acked) (z .base); below = false }) (w .0) in
+              subst (λ (k : ℕ). Held (ackedHeads i z s) k l′) q (record { some-id = nonzero; there = own .0; head = own .1 ∙ v ∙ ap lineHead (sym (w .1)) })
           go l e (inr w) =
               let o = h .held j l e in
-              record { some-id = o .some-id; there = there-other i j x (w .0) (w .0) (s .heads) ∙ o .there; head = head-other i j x (w .0) (w .0) (s .heads) ∙ o .head ∙ ap headOf (sym (w .1)) }
+              record { some-id = o .some-id; there = there-other i j x (w .0) (w .0) (s .heads) ∙ o .there; head = head-other i j x (w .0) (w .0) (s .heads) ∙ o .head ∙ ap lineHead (sym (w .1)) }
 
       f′ : Flow
       f′ = acknowledges i z s .flow
@@ -247,7 +247,7 @@ module _ (s : State) (h : Sound s) where
       each : (j : ℕ) (l′ l : Line) → Held (ackedHeads i z s) j l′ → find j (s .lines) ≡ some l → ((i ≡ l .id) × (l′ ≡ onServer (acknowledge (s .flow .last) (z .base) (members z)) l)) ⊎ (((i ≡ j) → ⊥) × (l′ ≡ l)) → Fine f′ (s .careful) (s .net) l′
       each j l′ l o e (inl w) =
           subst (λ (y : Line). Fine f′ (s .careful) (s .net) y) (sym (w .1))
-          (fine-ack (s .flow) (s .careful) (s .net) l (h .lines j l e) f′ z (h .flow .last-most) refl refl (λ t. t) (c .ahead) (g l j e (w .0))
+          (fine-ack (s .flow) (s .careful) (s .net) l (h .lines j l e) f′ z (h .flow .last-most) refl refl (λ t. t) (c 12 refl) (g l j e (w .0))
           (front-stored (s .flow) (ackedHeads i z s) j (onServer (acknowledge (s .flow .last) (z .base) (members z)) l) (subst (λ (y : Line). Held (ackedHeads i z s) j y) (w .1) o)))
       each j l′ l o e (inr w) =
           subst (λ (y : Line). Fine f′ (s .careful) (s .net) y) (sym (w .1))

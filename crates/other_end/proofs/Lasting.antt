@@ -5,11 +5,10 @@ use mathlib.Core.Bool.{Bool, true, false, cond}
 use mathlib.Core.List.{List, [], _∷_}
 use mathlib.Core.Option.{Option, none, some}
 use Rattle.numbers.specs.Number.{rankOf}
-use Rattle.numbers.specs.Refusals.{answerOf, isDone}
-use Rattle.numbers.specs.declared.answer.Rows.{Rows}
+use Rattle.numbers.specs.Refusals.{answerOf, isDone, Rows}
 use Rattle.writer_send_buffer.specs.Flow.{raised}
-use Rattle.other_end.specs.Calls.{Call, result, callRows}
-use Rattle.other_end.specs.System.{Line, Body, sample, gap, beat, ack, Msg, State, Event, match, depart, write, sentTo, evictTo, call, heartbeat, send, reply, deliver, find, upd, nth, onServer, withLines, withFlow, tried, matchRows, departRows, joined, left, ackRows, acknowledges, called, writeRows, sentRows, evictRows, wrote, evicts, arrive, arrives, sendFirst, sendTo, beatTo, replyFrom, step, run}
+use Rattle.other_end.specs.Calls.{ReaderCall, result, callRows}
+use Rattle.other_end.specs.System.{Line, Body, sample, gap, beat, ack, Msg, State, Event, match, depart, write, sentTo, evictTo, call, heartbeat, send, reply, deliver, find, upd, nth, onServer, withLines, stateWithFlow, tried, matchRefusals, departRefusals, lineMatched, lineDeparted, ackRefusals, acknowledges, called, writeRefusals, sentRefusals, evictRefusals, wrote, evicts, arrive, arrives, sendFirst, sendTo, beatTo, replyFrom, step, run}
 
 module _ (s : State) where
   kind-tried : (r : Rows) (y : State) → y .flow .kind ≡ s .flow .kind → tried r s y .flow .kind ≡ s .flow .kind
@@ -19,7 +18,7 @@ module _ (s : State) where
       go true = e
       go false = refl
 
-  kind-call : (j : ℕ) (c : Call) (o : Option Line) → called j c o s .flow .kind ≡ s .flow .kind
+  kind-call : (j : ℕ) (c : ReaderCall) (o : Option Line) → called j c o s .flow .kind ≡ s .flow .kind
   kind-call j c none = refl
   kind-call j c (some x) = kind-tried (callRows (s .flow .last) c (x .server)) (withLines (upd j (onServer (result c)) (s .lines)) s) refl
 
@@ -43,18 +42,18 @@ module _ (s : State) where
   kind-arrive j (sample k) = refl
   kind-arrive j (gap k) = refl
   kind-arrive j (beat k) = refl
-  kind-arrive j (ack z) = kind-tried (ackRows j z s) (acknowledges j z s) refl
+  kind-arrive j (ack z) = kind-tried (ackRefusals j z s) (acknowledges j z s) refl
 
   kind-arrives : (o : Option Msg) → arrives o s .flow .kind ≡ s .flow .kind
   kind-arrives none = refl
   kind-arrives (some m) = kind-arrive (m .line) (m .body)
 
   kind-step : (e : Event) → step e s .flow .kind ≡ s .flow .kind
-  kind-step (match j r m) = kind-tried (matchRows j m s) (joined j r m s) refl
-  kind-step (depart j) = kind-tried (departRows j s) (left j s) refl
-  kind-step (write len opted) = kind-tried (writeRows len opted s) (wrote opted s) refl
-  kind-step (sentTo k) = kind-tried (sentRows k s) (withFlow (raised (rankOf k) (s .flow)) s) refl
-  kind-step (evictTo k) = kind-tried (evictRows k s) (evicts (rankOf k) s) refl
+  kind-step (match j r m) = kind-tried (matchRefusals j m s) (lineMatched j r m s) refl
+  kind-step (depart j) = kind-tried (departRefusals j s) (lineDeparted j s) refl
+  kind-step (write len opted) = kind-tried (writeRefusals len opted s) (wrote opted s) refl
+  kind-step (sentTo k) = kind-tried (sentRefusals k s) (stateWithFlow (raised (rankOf k) (s .flow)) s) refl
+  kind-step (evictTo k) = kind-tried (evictRefusals k s) (evicts (rankOf k) s) refl
   kind-step (call j c) = kind-call j c (find j (s .lines))
   kind-step (heartbeat j) = kind-beat j (find j (s .lines))
   kind-step (send j) = kind-send j (find j (s .lines))

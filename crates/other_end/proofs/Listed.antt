@@ -5,32 +5,31 @@ use mathlib.Core.Bool.{Bool, true, false, not, cond}
 use mathlib.Core.List.{List, [], _∷_}
 use lib.ListN.{length, set}
 use borrow.Author.Tests.{eqb-true, not-false}
-use Rattle.numbers.specs.Refusals.{rowsOf, answerOf, isDone, unless, done}
+use Rattle.numbers.specs.Refusals.{answerOf, isDone, unless, done, Rows}
 use Rattle.numbers.specs.Promise.{Left1, Left2}
 use Rattle.numbers.specs.declared.answer.Answer.{Answer}
-use Rattle.numbers.specs.declared.answer.Rows.{Rows}
 use Rattle.numbers.proofs.Refused.{done-is}
 use Rattle.rtps_reader_proxy.specs.declared.proxy.Changed.{Changed}
 use Rattle.rtps_reader_proxy.specs.Reader.{fresh}
-use Rattle.rtps_reader_proxy.specs.Record.{headOf as proxyOf}
-use Rattle.rtps_reader_proxy.specs.Unsent.{newOf}
+use Rattle.rtps_reader_proxy.specs.Record.{proxyOf}
+use Rattle.rtps_reader_proxy.specs.Unsent.{newProxyOf}
 use Rattle.reader_list.specs.declared.heads.ReaderHead.{ReaderHead}
 use Rattle.reader_list.specs.declared.calls.Front.{Front}
-use Rattle.reader_list.specs.Readers.{Head, free, frontier, placeOf, matched, departed, fits}
-use Rattle.reader_list.specs.Slots.{readers, listed, capAllowed, headForm, listForm, freeSlot, frontierAt, frontOf, matchOf, departOf, matchRowsOf, departRowsOf}
+use Rattle.reader_list.specs.Readers.{Head, free, frontier, placeOfId, matched, departed, readersCoherent}
+use Rattle.reader_list.specs.Slots.{readers, listRows, capAllowed, headForm, listForm, freeSlot, frontierAt, frontOf, matchOf, departOf, matchRowsOf, departRowsOf}
 use Rattle.writer_send_buffer.specs.declared.flow.Told.{Told}
 use Rattle.writer_send_buffer.specs.declared.flow.WriterSendBuffer.{WriterSendBuffer}
 use Rattle.writer_send_buffer.specs.declared.frontiers.Woken.{Woken}
 use Rattle.writer_send_buffer.specs.Flow.{Flow, stored, wakes}
-use Rattle.writer_send_buffer.specs.Buffer.{form as flowForm, isCoherent, limited, toldNo, ackedOf, woken}
-use Rattle.writer_send_buffer.specs.Samples.{isCoherentStore}
+use Rattle.writer_send_buffer.specs.Buffer.{flowForm, flowCoherent, limited, toldNo, ackedOf, woken}
+use Rattle.writer_send_buffer.specs.Samples.{storeCoherent}
 use Rattle.writer_send_buffer.specs.History.{setAcked}
 use Rattle.writer_send_buffer.proofs.Sound.{Fits}
 use Rattle.writer_send_buffer.proofs.Kept.{coherent-step}
 use Rattle.writer_send_buffer.proofs.Steps.{form-coherent as flow-coherent}
 use Rattle.writer_steps.specs.Readers.{notStored, storedOf, after, stepLeaves, listStep}
 use Rattle.writer_steps.proofs.Together.{with-coherent}
-use Rattle.other_end.specs.System.{State, tried, matchRows, departRows, joined, left}
+use Rattle.other_end.specs.System.{State, tried, matchRefusals, departRefusals, lineMatched, lineDeparted}
 use Rattle.other_end.specs.AsCalled.{Lists, MatchCalled, DepartCalled}
 use Rattle.other_end.proofs.Heads.{Low, frontier-low}
 use Rattle.other_end.proofs.Calls.{done-clear}
@@ -40,31 +39,31 @@ use Rattle.other_end.proofs.Sound.{Sound}
 use Rattle.other_end.proofs.Joins.{sound-joined, sound-left}
 
 -- A CHANGE OF THE LIST to hs, with its frontier stored: refused only where the change itself is
-module _ (f : Flow) (h : Fits f) (hs : List Head) (low : Low (f .last) hs) (fit : fits hs ≡ true) where
+module _ (f : Flow) (h : Fits f) (hs : List Head) (low : Low (f .last) hs) (fit : readersCoherent hs ≡ true) where
   abbrev frontBy : Bool → ℕ → Front
-  frontBy t n = unless (listed false t false false false) (λ no. record { answer = no; frontier = frontierAt 0 }) (record { answer = done; frontier = frontierAt n })
+  frontBy t n = unless (listRows false t false false false) (λ no. record { answer = no; frontier = frontierAt 0 }) (record { answer = done; frontier = frontierAt n })
 
   front-is : frontOf (listForm hs) ≡ record { answer = done; frontier = frontierAt (frontier hs) }
-  front-is = ap (λ (x : List Head). frontBy (fits x) (frontier x)) (list-back (f .last) hs (h .last-most) low) ∙ ap (λ (t : Bool). frontBy t (frontier hs)) fit
+  front-is = ap (λ (x : List Head). frontBy (readersCoherent x) (frontier x)) (list-back (f .last) hs (h .last-most) low) ∙ ap (λ (t : Bool). frontBy t (frontier hs)) fit
 
   pub stores : storedOf (frontOf (listForm hs)) (flowForm f) ≡ record { told = record { answer = done; yes = wakes (frontier hs) f }; flow = flowForm (stored (frontier hs) f) }
   stores = ap (λ (x : Front). storedOf x (flowForm f)) front-is ∙ ap woken (does-store f h (frontier hs) (frontier-low (f .last) hs low))
 
   -- and a lent store that is coherent stays so
-  pub store-kept : (store lens : List ℕ) → isCoherentStore (flowForm f) (length store) lens ≡ true → isCoherentStore (flowForm (stored (frontier hs) f)) (length store) lens ≡ true
+  pub store-kept : (store lens : List ℕ) → storeCoherent (flowForm f) (length store) lens ≡ true → storeCoherent (flowForm (stored (frontier hs) f)) (length store) lens ≡ true
   store-kept store lens c =
-      subst (λ (o : Left1 Told WriterSendBuffer). isCoherentStore (o .first) (length store) lens ≡ true) (does-store f h (frontier hs) (frontier-low (f .last) hs low))
+      subst (λ (o : Left1 Told WriterSendBuffer). storeCoherent (o .first) (length store) lens ≡ true) (does-store f h (frontier hs) (frontier-low (f .last) hs low))
       (coherent-step (record { flow = flowForm f; bytes = store; lens = lens }) c (setAcked (frontierAt (frontier hs))))
 
   pub list-done : (old : List ReaderHead)
       → listStep old (flowForm f) (record { result = done; first = listForm hs })
       ≡ record { result = record { answer = done; yes = wakes (frontier hs) f }; first = listForm hs; second = flowForm (stored (frontier hs) f) }
   list-done old =
-      ap (λ (a : Answer). stepLeaves (after a (storedOf (frontOf (listForm hs)) (flowForm f)) (flowForm f)) old (listForm hs)) (with-coherent (rowsOf []) (flowForm f) (flow-coherent f h))
+      ap (λ (a : Answer). stepLeaves (after a (storedOf (frontOf (listForm hs)) (flowForm f)) (flowForm f)) old (listForm hs)) (with-coherent ([]) (flowForm f) (flow-coherent f h))
       ∙ ap (λ (w : Woken). stepLeaves w old (listForm hs)) stores
 
 -- one that is refused, whatever the list would be
-list-refused : (f : WriterSendBuffer) → isCoherent f ≡ true → (r : Rows) → isDone (answerOf r) ≡ false → (old new : List ReaderHead) → listStep old f (record { result = answerOf r; first = new }) ≡ record { result = toldNo (answerOf r); first = old; second = f }
+list-refused : (f : WriterSendBuffer) → flowCoherent f ≡ true → (r : Rows) → isDone (answerOf r) ≡ false → (old new : List ReaderHead) → listStep old f (record { result = answerOf r; first = new }) ≡ record { result = toldNo (answerOf r); first = old; second = f }
 list-refused f c r e old new =
     ap (λ (a : Answer). stepLeaves (after a (storedOf (frontOf new) f) f) old new) (with-coherent r f c)
     ∙ ap (λ (t : Bool). stepLeaves (cond {A = Woken} t (storedOf (frontOf new) f) (notStored f (answerOf r))) old new) e
@@ -92,10 +91,10 @@ module _ (s : State) (h : Sound s) where
           let low : Low (s .flow .last) (s₁ .heads) = subst (λ (g : Flow). Low (g .last) (s₁ .heads)) ef (n .low) in
           let w = list-done (s .flow) (h .flow) (s₁ .heads) low (n .list) (listForm (s .heads)) in
           record {
-            answer = ap (λ (x : Left2 Told (List ReaderHead) WriterSendBuffer). x .result .answer) w ∙ sym (done-is (answerOf r) (eqb-true (answerOf r .number) 0 e));
+            answer = ap (λ (x : Left2 Told (List ReaderHead) WriterSendBuffer). x .result .answer) w ∙ sym (done-is r (answerOf r) refl (eqb-true (answerOf r .number) 0 e));
             flow = ap (λ (x : Left2 Told (List ReaderHead) WriterSendBuffer). x .second) w ∙ ap flowForm (sym ef);
             list = ap (λ (x : Left2 Told (List ReaderHead) WriterSendBuffer). x .first) w;
-            store = λ store lens c. subst (λ (g : Flow). isCoherentStore (flowForm g) (length store) lens ≡ true) (sym ef) (store-kept (s .flow) (h .flow) (s₁ .heads) low (n .list) store lens c);
+            store = λ store lens c. subst (λ (g : Flow). storeCoherent (flowForm g) (length store) lens ≡ true) (sym ef) (store-kept (s .flow) (h .flow) (s₁ .heads) low (n .list) store lens c);
           }
       go false e =
           let w = list-refused (flowForm (s .flow)) (flow-coherent (s .flow) (h .flow)) r e (listForm (s .heads)) (listForm (s .heads)) in
@@ -107,19 +106,19 @@ module _ (s : State) (h : Sound s) where
           }
 
   pub match-called : (i : ℕ) (r : Bool) (m : ℕ) → MatchCalled i r m s
-  match-called i r m = (lists (matchRows i m s) (joined i r m s) (matchOf list (record { id = i; reliable = r; cap = m })) is refl (sound-joined s h i r m), new)
+  match-called i r m = (lists (matchRefusals i m s) (lineMatched i r m s) (matchOf list (record { id = i; reliable = r; cap = m })) is refl (sound-joined s h i r m), new)
     where
       x : Head
-      x = record { id = i; reliable = r; acked = 0 }
+      x = record { id = i; reliable = r; acked = 0; below = false }
 
-      is : matchOf (listForm (s .heads)) (record { id = i; reliable = r; cap = m }) ≡ callBy (matchRows i m s) (listForm (matched i r (s .heads)))
+      is : matchOf (listForm (s .heads)) (record { id = i; reliable = r; cap = m }) ≡ callBy (matchRefusals i m s) (listForm (matched i r (s .heads)))
       is =
-          back (λ y. callBy (matchRowsOf (fits y) m i y) (set (listForm (s .heads)) (placeOf 0 y) (headForm x)))
-          ∙ ap (λ (t : Bool). callBy (matchRowsOf t m i (s .heads)) (set (listForm (s .heads)) (placeOf 0 (s .heads)) (headForm x))) (h .list)
-          ∙ ap (callBy (matchRows i m s)) (sym (list-set (s .heads) (placeOf 0 (s .heads)) x))
+          back (λ y. callBy (matchRowsOf (readersCoherent y) m i y) (set (listForm (s .heads)) (placeOfId 0 y) (headForm x)))
+          ∙ ap (λ (t : Bool). callBy (matchRowsOf t m i (s .heads)) (set (listForm (s .heads)) (placeOfId 0 (s .heads)) (headForm x))) (h .list)
+          ∙ ap (callBy (matchRefusals i m s)) (sym (list-set (s .heads) (placeOfId 0 (s .heads)) x))
 
-      new : isDone (answerOf (matchRows i m s)) ≡ true → newOf m ≡ record { answer = done; proxy = proxyOf (fresh m) }
-      new d = go (capAllowed m) (not-false (capAllowed m) (done-clear (matchRows i m s) d .limit))
+      new : isDone (answerOf (matchRefusals i m s)) ≡ true → newProxyOf m ≡ record { answer = done; proxy = proxyOf (fresh m) }
+      new d = go (capAllowed m) (not-false (capAllowed m) (done-clear (matchRefusals i m s) d 13 refl))
         where
           made : Bool → Changed
           made t = unless (limited (not t)) (λ a. record { answer = a; proxy = proxyOf (fresh 0) }) (record { answer = done; proxy = proxyOf (fresh m) })
@@ -128,10 +127,10 @@ module _ (s : State) (h : Sound s) where
           go t e = ap made e
 
   pub depart-called : (i : ℕ) → DepartCalled i s
-  depart-called i = lists (departRows i s) (left i s) (departOf list i) is refl (λ d. sound-left s h i)
+  depart-called i = lists (departRefusals i s) (lineDeparted i s) (departOf list i) is refl (λ d. sound-left s h i)
     where
-      is : departOf (listForm (s .heads)) i ≡ callBy (departRows i s) (listForm (departed i (s .heads)))
+      is : departOf (listForm (s .heads)) i ≡ callBy (departRefusals i s) (listForm (departed i (s .heads)))
       is =
-          back (λ y. callBy (departRowsOf (fits y) i y) (set (listForm (s .heads)) (placeOf i y) freeSlot))
-          ∙ ap (λ (t : Bool). callBy (departRowsOf t i (s .heads)) (set (listForm (s .heads)) (placeOf i (s .heads)) freeSlot)) (h .list)
-          ∙ ap (callBy (departRows i s)) (sym (list-set (s .heads) (placeOf i (s .heads)) free))
+          back (λ y. callBy (departRowsOf (readersCoherent y) i y) (set (listForm (s .heads)) (placeOfId i y) freeSlot))
+          ∙ ap (λ (t : Bool). callBy (departRowsOf t i (s .heads)) (set (listForm (s .heads)) (placeOfId i (s .heads)) freeSlot)) (h .list)
+          ∙ ap (callBy (departRefusals i s)) (sym (list-set (s .heads) (placeOfId i (s .heads)) free))

@@ -12,8 +12,8 @@ use Rattle.writer_send_buffer.specs.declared.limits.Kind.{Kind}
 use Rattle.writer_send_buffer.specs.declared.limits.Limits.{Limits}
 use Rattle.other_end.specs.Model.{base}
 use Rattle.other_end.specs.Calls.{gapAt, gapTo, askFrags}
-use Rattle.other_end.specs.System.{Line, State, Event, match, depart, write, evictTo, call, heartbeat, send, reply, deliver, find, run, start, joined, withFlow}
-use Rattle.other_end.specs.Rounds.{opened, drained, closed, cleanRound}
+use Rattle.other_end.specs.System.{Line, State, Event, match, depart, write, evictTo, call, heartbeat, send, reply, deliver, find, run, start, lineMatched, stateWithFlow}
+use Rattle.other_end.specs.Rounds.{roundOpened, drained, roundClosed, cleanRound}
 use Rattle.other_end.specs.Demand3.{Reached, Kept}
 
 abbrev kind : Kind
@@ -111,7 +111,7 @@ past-careful = refl
 
 -- THE FRONTIER STORED LATE after the match: two writes come between, `retain` is 1, and the writer, which sees no reliable reader, trims 1 away
 abbrev slow : State
-slow = run (write 1 false ∷ write 1 false ∷ []) (withFlow (start kind (limits 1) 2 .flow) (joined 1 true 4 (start kind (limits 1) 2)))
+slow = run (write 1 false ∷ write 1 false ∷ []) (stateWithFlow (start kind (limits 1) 2 .flow) (lineMatched 1 true 4 (start kind (limits 1) 2)))
 
 slow-first : slow .flow .first ≡ 2
 slow-first = refl
@@ -142,37 +142,37 @@ unfolding wordOf wordsOf
 three-frontier = refl
 
 -- ONE ACKNACK INSTEAD OF TWO: the ends differ
-three-open : view (find 1 (drained 1 (opened 1 three) .lines)) ≡ 1 ∷ 3 ∷ []
+three-open : view (find 1 (drained 1 (roundOpened 1 three) .lines)) ≡ 1 ∷ 3 ∷ []
 unfolding wordOf wordsOf
 three-open = refl
 
 -- UNSENT NOT DRAINED, or drained but not received: the line doesn't move on
-three-unsaid : view (find 1 (closed 1 (opened 1 three) .lines)) ≡ 1 ∷ 1 ∷ 1 ∷ 2 ∷ []
+three-unsaid : view (find 1 (roundClosed 1 (roundOpened 1 three) .lines)) ≡ 1 ∷ 1 ∷ 1 ∷ 2 ∷ []
 unfolding wordOf wordsOf
 three-unsaid = refl
 
-three-lost : view (find 1 (closed 1 (run (send 1 ∷ send 1 ∷ []) (opened 1 three)) .lines)) ≡ 1 ∷ 1 ∷ 1 ∷ 2 ∷ []
+three-lost : view (find 1 (roundClosed 1 (run (send 1 ∷ send 1 ∷ []) (roundOpened 1 three)) .lines)) ≡ 1 ∷ 1 ∷ 1 ∷ 2 ∷ []
 unfolding wordOf wordsOf
 three-lost = refl
 
 -- NO HEARTBEAT: what is unsent is sent, but the line doesn't know that there was a 1 before it hears of 2, and so doesn't move on
-three-unannounced : view (find 1 (closed 1 (drained 1 (closed 1 three)) .lines)) ≡ 1 ∷ 1 ∷ 1 ∷ []
+three-unannounced : view (find 1 (roundClosed 1 (drained 1 (roundClosed 1 three)) .lines)) ≡ 1 ∷ 1 ∷ 1 ∷ []
 unfolding wordOf wordsOf
 three-unannounced = refl
 
 -- sent both, then received in the other order: as one by one
-three-swapped : view (find 1 (closed 1 (run (send 1 ∷ send 1 ∷ deliver 0 ∷ deliver 1 ∷ []) (opened 1 three)) .lines)) ≡ 3 ∷ 3 ∷ 3 ∷ []
+three-swapped : view (find 1 (roundClosed 1 (run (send 1 ∷ send 1 ∷ deliver 0 ∷ deliver 1 ∷ []) (roundOpened 1 three)) .lines)) ≡ 3 ∷ 3 ∷ 3 ∷ []
 unfolding wordOf wordsOf
 three-swapped = refl
 
 -- SOMETHING ELSE DELIVERED TO THE LINE: a 3 sent before the round arrives once the second ACKNACK is under way. The ends differ
-three-late : view (find 1 (run (reply 1 ∷ deliver 5 ∷ deliver 0 ∷ []) (drained 1 (opened 1 (run (send 1 ∷ send 1 ∷ []) three))) .lines)) ≡ 3 ∷ 4 ∷ 3 ∷ []
+three-late : view (find 1 (run (reply 1 ∷ deliver 5 ∷ deliver 0 ∷ []) (drained 1 (roundOpened 1 (run (send 1 ∷ send 1 ∷ []) three))) .lines)) ≡ 3 ∷ 4 ∷ 3 ∷ []
 unfolding wordOf wordsOf
 three-late = refl
 
 -- EVICTION PAST THE FRONTIER IN A ROUND: the line moves on, but by a gap: it isn't kept
 abbrev gapped : State
-gapped = closed 1 (drained 1 (run (evictTo (numberAt 2) ∷ []) (opened 1 (run (match 1 true 4 ∷ write 1 false ∷ []) new))))
+gapped = roundClosed 1 (drained 1 (run (evictTo (numberAt 2) ∷ []) (roundOpened 1 (run (match 1 true 4 ∷ write 1 false ∷ []) new))))
 
 gapped-on : view (find 1 (gapped .lines)) ≡ 2 ∷ 2 ∷ []
 unfolding wordOf wordsOf

@@ -17,7 +17,7 @@ use Rattle.rtps_reader_proxy.specs.Reader.{markedSent}
 use Rattle.writer_send_buffer.specs.Flow.{retained}
 use Rattle.other_end.specs.Model.{gotData, gotGap, ackNack}
 use Rattle.other_end.specs.System.{Line, Body, sample, gap, beat, ack, Msg, State, Event, heartbeat, send, reply, deliver, find, upd, nth, onServer, onModel, withLines, post, beatTo, replyFrom, step, run}
-use Rattle.other_end.specs.Rounds.{Each, Carried, Arrives, Allowed, opened, sends, unsentOf, drained, cleanRound, SettledAt, Received, Round}
+use Rattle.other_end.specs.Rounds.{Each, Carried, Arrives, RoundEvent, roundOpened, sends, unsentOf, drained, cleanRound, SettledAt, Received, Round}
 use Rattle.other_end.proofs.Found.{some-line, some-msg, find-same}
 use Rattle.other_end.proofs.Sound.{Sound}
 use Rattle.other_end.proofs.Runs.{sound-run}
@@ -86,7 +86,7 @@ waits-on i n old m ms s h w =
           received = all (onModel (gotGap m) (onServer (markedSent m) (w .line))) refl (gap m) own;
         }
 
-drains : (i n old : ℕ) (u : List ℕ) (s : State) → Sound s → Waits i n old u s → Each (Allowed i) (sends i (length u)) s × Waits i n old [] (run (sends i (length u)) s)
+drains : (i n old : ℕ) (u : List ℕ) (s : State) → Sound s → Waits i n old u s → Each (RoundEvent i) (sends i (length u)) s × Waits i n old [] (run (sends i (length u)) s)
 drains i n old [] s h w = (tt, w)
 drains i n old (m ∷ ms) s h w =
     let o = waits-on i n old m ms s h w in
@@ -110,26 +110,26 @@ one-round i l s h found =
       announced = beats i l s found;
       before = [];
       beside = tt;
-      begun = opened i s;
+      begun = roundOpened i s;
       first = first;
-      events = sends i (unsentOf (find i (opened i s .lines)));
+      events = sends i (unsentOf (find i (roundOpened i s .lines)));
       exchange = all .0;
       drained = λ l₂ e. subst (λ (y : Line). y .server .unsent ≡ []) (some-line (sym (all .1 .at .found) ∙ e)) (all .1 .unsent);
-      received = λ l₂ e. subst (λ (y : Line). Received i (length (opened i s .net)) y (drained i (opened i s))) (some-line (sym (all .1 .at .found) ∙ e)) (all .1 .received);
-      second = replies i (all .1 .line) (drained i (opened i s)) (all .1 .at .found);
+      received = λ l₂ e. subst (λ (y : Line). Received i (length (roundOpened i s .net)) y (drained i (roundOpened i s))) (some-line (sym (all .1 .at .found) ∙ e)) (all .1 .received);
+      second = replies i (all .1 .line) (drained i (roundOpened i s)) (all .1 .at .found);
     }
   where
     b : (x : Line) × Sent l x × At i (beaten (s .flow .last) x) (s .flow .last) (run (heartbeat i ∷ deliver 0 ∷ []) s)
     b = carried-beat i l (s .flow .last) s (run (heartbeat i ∷ deliver 0 ∷ []) s) h (record { found = found; last = refl }) (beats i l s found)
 
-    first : Carried i (reply i) (run (heartbeat i ∷ deliver 0 ∷ []) s) (opened i s)
+    first : Carried i (reply i) (run (heartbeat i ∷ deliver 0 ∷ []) s) (roundOpened i s)
     first = replies i (beaten (s .flow .last) (b .0)) (run (heartbeat i ∷ deliver 0 ∷ []) s) (b .2 .found)
 
-    c : Replied i (beaten (s .flow .last) (b .0)) (s .flow .last) (opened i s)
-    c = carried-ack i (beaten (s .flow .last) (b .0)) (s .flow .last) (run (heartbeat i ∷ deliver 0 ∷ []) s) (opened i s) (sound-run (heartbeat i ∷ deliver 0 ∷ []) s h) (b .2) first
+    c : Replied i (beaten (s .flow .last) (b .0)) (s .flow .last) (roundOpened i s)
+    c = carried-ack i (beaten (s .flow .last) (b .0)) (s .flow .last) (run (heartbeat i ∷ deliver 0 ∷ []) s) (roundOpened i s) (sound-run (heartbeat i ∷ deliver 0 ∷ []) s h) (b .2) first
 
-    all : Each (Allowed i) (sends i (unsentOf (find i (opened i s .lines)))) (opened i s) × Waits i (s .flow .last) (length (opened i s .net)) [] (drained i (opened i s))
+    all : Each (RoundEvent i) (sends i (unsentOf (find i (roundOpened i s .lines)))) (roundOpened i s) × Waits i (s .flow .last) (length (roundOpened i s .net)) [] (drained i (roundOpened i s))
     all =
-        subst (λ (o : Option Line). Each (Allowed i) (sends i (unsentOf o)) (opened i s) × Waits i (s .flow .last) (length (opened i s .net)) [] (run (sends i (unsentOf o)) (opened i s))) (sym (c .at .found))
-        (drains i (s .flow .last) (length (opened i s .net)) (replied (s .flow .last) (c .line) .server .unsent) (opened i s) (sound-run (heartbeat i ∷ deliver 0 ∷ reply i ∷ deliver 0 ∷ []) s h)
+        subst (λ (o : Option Line). Each (RoundEvent i) (sends i (unsentOf o)) (roundOpened i s) × Waits i (s .flow .last) (length (roundOpened i s .net)) [] (run (sends i (unsentOf o)) (roundOpened i s))) (sym (c .at .found))
+        (drains i (s .flow .last) (length (roundOpened i s .net)) (replied (s .flow .last) (c .line) .server .unsent) (roundOpened i s) (sound-run (heartbeat i ∷ deliver 0 ∷ reply i ∷ deliver 0 ∷ []) s h)
         (record { line = replied (s .flow .last) (c .line); at = c .at; unsent = refl; long = omega arith; received = λ k m q e o. absurd (omega arith) }))

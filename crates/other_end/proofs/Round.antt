@@ -14,10 +14,10 @@ use Rattle.sets.proofs.Bools.{decide}
 use Rattle.sets.proofs.Has.{has-union}
 use Rattle.sets.proofs.Smallest.{has-take}
 use Rattle.rtps_reader_proxy.specs.Reader.{baseOf, isLate, ackedAfter, staying, wanted, acknowledge}
-use Rattle.other_end.specs.Model.{Model, gotBeat, base, bits, asked, missing}
+use Rattle.other_end.specs.Model.{Model, gotBeat, base, bits, modelAsks, missing}
 use Rattle.other_end.specs.System.{Line, State, Event, heartbeat, reply, deliver, find, step, run}
 use Rattle.other_end.specs.Rounds.{Carried, Round}
-use Rattle.other_end.specs.Demand3.{Moved}
+use Rattle.other_end.specs.Demand3.{MovedOn}
 use Rattle.other_end.proofs.Gaps.{gap-ge, gap-all, gap-past, has-missing}
 use Rattle.other_end.proofs.Records.{Above, between-in, wanted-rise}
 use Rattle.other_end.proofs.Fine.{Fine}
@@ -73,37 +73,37 @@ take-none (suc c) = refl
 -- what is unsent once the first is taken holds all that is missing of the first numbers
 module _ (n : ℕ) (l : Line) (credit : l .server .acked ≤ base (l .model)) (above : Above (l .server)) (kn : l .model .known ≡ n) where
   asked-for : (s x : ℕ) → base (l .model) + s ≡ suc n → base (l .model) ≤ x → x < base (l .model) + min s (min 256 (l .server .cap)) → has (l .model .settled) x ≡ false
-      → has (acknowledge n (base (l .model)) (asked (l .model)) (l .server) .unsent) x ≡ true
+      → has (acknowledge n (base (l .model)) (modelAsks (l .model)) (l .server) .unsent) x ≡ true
   asked-for s x q p w e =
-      has-take (l .server .cap) (ackedAfter (l .server .acked) b) full x (wanted-rise n b (l .server .acked) (l .server .unsent) (asked (l .model)) above) (omega (arith, p, w)) joins
+      has-take (l .server .cap) (ackedAfter (l .server .acked) b) full x (wanted-rise n b (l .server .acked) (l .server .unsent) (modelAsks (l .model)) above) (omega (arith, p, w)) joins
     where
       b : ℕ
       b = base (l .model)
 
       full : List ℕ
-      full = wanted n (base (l .model)) (asked (l .model)) (l .server .acked) (l .server .unsent)
+      full = wanted n (base (l .model)) (modelAsks (l .model)) (l .server .acked) (l .server .unsent)
 
-      wants : has (asked (l .model)) x ≡ true
+      wants : has (modelAsks (l .model)) x ≡ true
       wants = has-missing (bits (l .model)) (base (l .model)) (l .model .settled) x p (omega (arith, p, w, q, kn)) e
 
-      joins : has (wanted n (base (l .model)) (asked (l .model)) (l .server .acked) (l .server .unsent)) x ≡ true
+      joins : has (wanted n (base (l .model)) (modelAsks (l .model)) (l .server .acked) (l .server .unsent)) x ≡ true
       joins =
-          has-union (between (ackedAfter (l .server .acked) (base (l .model))) n (asked (l .model))) (staying n (base (l .model)) (l .server .acked) (l .server .unsent)) x
+          has-union (between (ackedAfter (l .server .acked) (base (l .model))) n (modelAsks (l .model))) (staying n (base (l .model)) (l .server .acked) (l .server .unsent)) x
           ∙ ap (λ (t : Bool). t || has (staying n (base (l .model)) (l .server .acked) (l .server .unsent)) x)
-          (between-in (ackedAfter (l .server .acked) (base (l .model))) n (asked (l .model)) x (omega (arith, p, gap-ge 1 (l .model .settled), credit)) (omega (arith, p, w, q)) wants)
+          (between-in (ackedAfter (l .server .acked) (base (l .model))) n (modelAsks (l .model)) x (omega (arith, p, gap-ge 1 (l .model .settled), credit)) (omega (arith, p, w, q)) wants)
 
 -- the second, of a line whose unsent numbers are all sent
 closes : (n : ℕ) (l : Line) → l .server .acked ≤ base (l .model) → l .model .known ≡ n → l .server .unsent ≡ []
-    → (ackedAfter (l .server .acked) (base (l .model)) ≡ base (l .model)) × (base (l .model) ≡ suc n → acknowledge n (base (l .model)) (asked (l .model)) (l .server) .unsent ≡ [])
+    → (ackedAfter (l .server .acked) (base (l .model)) ≡ base (l .model)) × (base (l .model) ≡ suc n → acknowledge n (base (l .model)) (modelAsks (l .model)) (l .server) .unsent ≡ [])
 closes n l credit kn e = (omega (arith, credit, gap-ge 1 (l .model .settled)), none-left)
   where
     old : (t : Bool) → _≡_ {A = List ℕ} (cond t [] (between (baseOf (base (l .model))) n [])) []
     old true = refl
     old false = refl
 
-    none-left : base (l .model) ≡ suc n → smallest (l .server .cap) (wanted n (base (l .model)) (asked (l .model)) (l .server .acked) (l .server .unsent)) ≡ []
+    none-left : base (l .model) ≡ suc n → smallest (l .server .cap) (wanted n (base (l .model)) (modelAsks (l .model)) (l .server .acked) (l .server .unsent)) ≡ []
     none-left q =
-        let w : asked (l .model) ≡ [] = missing-none (bits (l .model)) (base (l .model)) (l .model .settled) (omega (arith, q, kn)) in
+        let w : modelAsks (l .model) ≡ [] = missing-none (bits (l .model)) (base (l .model)) (l .model .settled) (omega (arith, q, kn)) in
         let v : staying n (base (l .model)) (l .server .acked) (l .server .unsent) ≡ [] =
         ap (staying n (base (l .model)) (l .server .acked)) e ∙ old (isLate (l .server .acked) (base (l .model))) in
         ap (λ (ms : List ℕ). take (l .server .cap) (union (between (ackedAfter (l .server .acked) (base (l .model))) n ms) (staying n (base (l .model)) (l .server .acked) (l .server .unsent)))) w
@@ -186,13 +186,13 @@ module _ (i : ℕ) (l : Line) (n : ℕ) (s s′ : State) (h : Sound s) (a : At i
       below (inl f) = d .old x (settled₁ x ∙ gap-all 1 (l .model .settled) x (h .lines i l (a .found) .rise) p (ltb-true x (base (l .model)) f))
       below (inr f) = later (decide (has (l .model .settled) x)) (ltb-false x (base (l .model)) f)
 
-  pub round-moves : (l′ : Line) × (find i (s′ .lines) ≡ some l′) × (s′ .flow .last ≡ n) × Same l l′ × Moved n l l′
+  pub round-moves : (l′ : Line) × (find i (s′ .lines) ≡ some l′) × (s′ .flow .last ≡ n) × Same l l′ × MovedOn n l l′
   round-moves = (replied n (e .line), e .at .found, e .at .last, record { cap = was .cap; anew = was .anew; reliable = was .reliable; since = was .since }, moved)
     where
-      ends : (ackedAfter (e .line .server .acked) (base (e .line .model)) ≡ base (e .line .model)) × (base (e .line .model) ≡ suc n → acknowledge n (base (e .line .model)) (asked (e .line .model)) (e .line .server) .unsent ≡ [])
+      ends : (ackedAfter (e .line .server .acked) (base (e .line .model)) ≡ base (e .line .model)) × (base (e .line .model) ≡ suc n → acknowledge n (base (e .line .model)) (modelAsks (e .line .model)) (e .line .server) .unsent ≡ [])
       ends = closes n (e .line) (e .credit (was .anew ∙ new)) known₂ (e .sent .none (d .empty))
 
-      moved : Moved n l (replied n (e .line))
+      moved : MovedOn n l (replied n (e .line))
       moved =
           record {
             on = λ k q.

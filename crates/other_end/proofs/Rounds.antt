@@ -11,16 +11,15 @@ use native.Mathlib.Nat.{zero-mul, suc-mul, div-lt-iff-lt-mul}
 use borrow.Author.Tests.{eqb-true, eqb-false}
 use Rattle.sets.proofs.Bools.{decide}
 use Rattle.numbers.specs.Number.{rankOf}
-use Rattle.numbers.specs.Refusals.{answerOf, isDone}
-use Rattle.numbers.specs.declared.answer.Rows.{Rows}
+use Rattle.numbers.specs.Refusals.{answerOf, isDone, Rows}
 use Rattle.number_sets.specs.Bits.{members}
 use Rattle.rtps_reader_proxy.specs.Reader.{acknowledge, markedSent}
 use Rattle.writer_send_buffer.specs.Flow.{raised}
 use Rattle.other_end.specs.Model.{gotData, gotGap, gotBeat, base}
-use Rattle.other_end.specs.Calls.{Call, result, callRows}
-use Rattle.other_end.specs.System.{Line, Body, sample, gap, beat, ack, Msg, State, Event, match, depart, write, sentTo, evictTo, call, heartbeat, send, reply, deliver, find, upd, nth, onServer, onModel, withLines, withFlow, tried, matchRows, departRows, newcomer, joined, left, ackRows, acknowledges, called, sentRows, evictRows, evicts, arrive, arrives, sendFirst, sendTo, beatTo, replyFrom, step, run, start}
+use Rattle.other_end.specs.Calls.{ReaderCall, result, callRows}
+use Rattle.other_end.specs.System.{Line, Body, sample, gap, beat, ack, Msg, State, Event, match, depart, write, sentTo, evictTo, call, heartbeat, send, reply, deliver, find, upd, nth, onServer, onModel, withLines, stateWithFlow, tried, matchRefusals, departRefusals, newcomer, lineMatched, lineDeparted, ackRefusals, acknowledges, called, sentRefusals, evictRefusals, evicts, arrive, arrives, sendFirst, sendTo, beatTo, replyFrom, step, run, start}
 use Rattle.other_end.specs.Rounds.{Quiet, Rounds}
-use Rattle.other_end.specs.Demand3.{Moved, Reached, roundsFor}
+use Rattle.other_end.specs.Demand3.{MovedOn, Reached, roundsFor}
 use Rattle.other_end.proofs.Found.{find-same, find-other, find-stays}
 use Rattle.other_end.proofs.Calls.{call-cap}
 use Rattle.other_end.proofs.Fine.{Sane, base-last, settle-base}
@@ -60,12 +59,12 @@ module _ (i : ℕ) (l : Line) (s : State) (h : Sound s) (found : find i (s .line
       go (inl e) = (g l, subst (λ (k : ℕ). find i (upd k g (s .lines)) ≡ some (g l)) (sym (eqb-true j i e)) (find-same i g keeps (s .lines) l found), t)
       go (inr e) = (l, find-other j i g keeps (eqb-false j i e) (s .lines) ∙ found, unchanged l)
 
-  next-match : (j : ℕ) (r : Bool) (m : ℕ) → isDone (answerOf (matchRows j m s)) ≡ true → Next i l (s .flow .last) (joined j r m s)
+  next-match : (j : ℕ) (r : Bool) (m : ℕ) → isDone (answerOf (matchRefusals j m s)) ≡ true → Next i l (s .flow .last) (lineMatched j r m s)
   next-match j r m d =
       let away = match-other i l (s .flow .last) s h (record { found = found; last = refl }) j m d in
       (l, ap (λ (t : Bool). cond t (some (newcomer j r m s)) (find i (s .lines))) away ∙ found, refl, unchanged l)
 
-  next-call : (j : ℕ) (c : Call) (o : Option Line) → Next i l (s .flow .last) (called j c o s)
+  next-call : (j : ℕ) (c : ReaderCall) (o : Option Line) → Next i l (s .flow .last) (called j c o s)
   next-call j c none = stays
   next-call j c (some x) =
       next-tried (callRows (s .flow .last) c (x .server)) (withLines (upd j (onServer (result c)) (s .lines)) s)
@@ -94,7 +93,7 @@ module _ (i : ℕ) (l : Line) (s : State) (h : Sound s) (found : find i (s .line
       let w = next-upd j (onModel (gotGap k)) (λ y. refl) (record { same = record { cap = refl; anew = refl; reliable = refl; since = refl }; base = settle-base (s .flow) (s .careful) (s .net) l (h .lines i l found) k (g .0) }) in (w .0, w .1, refl, w .2)
   next-arrive j (beat k) g = let w = next-upd j (onModel (gotBeat k)) (λ y. refl) (record { same = record { cap = refl; anew = refl; reliable = refl; since = refl }; base = omega arith }) in (w .0, w .1, refl, w .2)
   next-arrive j (ack z) g =
-      next-tried (ackRows j z s) (acknowledges j z s)
+      next-tried (ackRefusals j z s) (acknowledges j z s)
       (λ d. let w = next-upd j (onServer (acknowledge (s .flow .last) (z .base) (members z))) (λ y. refl) (record { same = record { cap = refl; anew = refl; reliable = refl; since = refl }; base = omega arith }) in (w .0, w .1, refl, w .2))
 
   next-arrives : (k : ℕ) (o : Option Msg) → nth (s .net) k ≡ o → Next i l (s .flow .last) (arrives o s)
@@ -102,14 +101,14 @@ module _ (i : ℕ) (l : Line) (s : State) (h : Sound s) (found : find i (s .line
   next-arrives k (some m) e = next-arrive (m .line) (m .body) (h .sane k m e)
 
   next-depart : (j : ℕ) → (j ≡ i → ⊥) → Next i l (s .flow .last) (step (depart j) s)
-  next-depart j q = next-tried (departRows j s) (left j s) (λ d. (l, find-stays j i q (s .lines) ∙ found, refl, unchanged l))
+  next-depart j q = next-tried (departRefusals j s) (lineDeparted j s) (λ d. (l, find-stays j i q (s .lines) ∙ found, refl, unchanged l))
 
   quiet-step : (e : Event) (es : List Event) → Quiet i (e ∷ es) → Next i l (s .flow .last) (step e s) × Quiet i es
-  quiet-step (match j r m) es q = (next-tried (matchRows j m s) (joined j r m s) (next-match j r m), q)
+  quiet-step (match j r m) es q = (next-tried (matchRefusals j m s) (lineMatched j r m s) (next-match j r m), q)
   quiet-step (depart j) es q = (next-depart j (q .0), q .1)
   quiet-step (write len opted) es q = absurd q
-  quiet-step (sentTo k) es q = (next-tried (sentRows k s) (withFlow (raised (rankOf k) (s .flow)) s) (λ d. stays), q)
-  quiet-step (evictTo k) es q = (next-tried (evictRows k s) (evicts (rankOf k) s) (λ d. stays), q)
+  quiet-step (sentTo k) es q = (next-tried (sentRefusals k s) (stateWithFlow (raised (rankOf k) (s .flow)) s) (λ d. stays), q)
+  quiet-step (evictTo k) es q = (next-tried (evictRefusals k s) (evicts (rankOf k) s) (λ d. stays), q)
   quiet-step (call j c) es q = (next-call j c (find j (s .lines)), q)
   quiet-step (heartbeat j) es q = (next-beat j (find j (s .lines)), q)
   quiet-step (send j) es q = (next-sendTo j (find j (s .lines)), q)
@@ -159,7 +158,7 @@ reach : (e b q m k c p t : ℕ) → q + min k c ≤ m → q + k ≡ t → b ≤ 
 reach e b q m k c p t u v w x y = omega arith
 
 -- one round more in front: l is q when the round begins, and m when it ends
-one-more : (i r n : ℕ) (l q m : Line) (s′ : State) → Later l q → base (q .model) ≤ suc n → Same q m → Moved n q m → Levelled i r m n s′ → Levelled i (suc r) l n s′
+one-more : (i r n : ℕ) (l q m : Line) (s′ : State) → Later l q → base (q .model) ≤ suc n → Same q m → MovedOn n q m → Levelled i r m n s′ → Levelled i (suc r) l n s′
 one-more i r n l q m s′ w top e d v =
     record {
       line = v .line;

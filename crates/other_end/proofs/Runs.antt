@@ -22,8 +22,8 @@ use Rattle.writer_send_buffer.proofs.Sound.{Fits}
 use Rattle.writer_send_buffer.proofs.Steps.{fits-blank, fits-admitted, fits-raised, fits-evicted}
 use Rattle.writer_send_buffer.proofs.Window.{no-trim-with-readers}
 use Rattle.other_end.specs.Model.{gotData, gotGap, gotBeat, base, ackNack}
-use Rattle.other_end.specs.Calls.{Call, result, callRows}
-use Rattle.other_end.specs.System.{Line, Body, sample, gap, beat, ack, Msg, State, Event, match, depart, write, sentTo, evictTo, call, heartbeat, send, reply, deliver, find, upd, nth, onServer, onModel, withLines, withFlow, post, matchRows, departRows, joined, left, ackRows, acknowledges, called, writeRows, sentRows, evictRows, wrote, evicts, arrive, arrives, sendFirst, sendTo, beatTo, replyFrom, step, run, start}
+use Rattle.other_end.specs.Calls.{ReaderCall, result, callRows}
+use Rattle.other_end.specs.System.{Line, Body, sample, gap, beat, ack, Msg, State, Event, match, depart, write, sentTo, evictTo, call, heartbeat, send, reply, deliver, find, upd, nth, onServer, onModel, withLines, stateWithFlow, post, matchRefusals, departRefusals, lineMatched, lineDeparted, ackRefusals, acknowledges, called, writeRefusals, sentRefusals, evictRefusals, wrote, evicts, arrive, arrives, sendFirst, sendTo, beatTo, replyFrom, step, run, start}
 use Rattle.other_end.proofs.Found.{none-some, none-msg, some-line, find-id, find-map, find-mapped, apart-map}
 use Rattle.other_end.proofs.Heads.{known-is, free-none, fits-free, Low, low-more, low-free}
 use Rattle.other_end.proofs.Calls.{done-clear, call-acked}
@@ -33,10 +33,10 @@ use Rattle.other_end.proofs.Joins.{sound-joined, sound-left, sound-ack}
 
 -- a head with another number
 abbrev headWith : Line → ℕ → Head
-headWith l a = record { id = l .id; reliable = l .reliable; acked = a }
+headWith l a = record { id = l .id; reliable = l .reliable; acked = a; below = false }
 
 module _ (s : State) (h : Sound s) where
-  sound-call : (i : ℕ) (d : Call) (o : Option Line) → find i (s .lines) ≡ o → Sound (called i d o s)
+  sound-call : (i : ℕ) (d : ReaderCall) (o : Option Line) → find i (s .lines) ≡ o → Sound (called i d o s)
   sound-call i d none e = h
   sound-call i d (some l) e =
       sound-tried (callRows (s .flow .last) d (l .server)) s (withLines (upd i (onServer (result d)) (s .lines)) s) h
@@ -77,7 +77,7 @@ module _ (s : State) (h : Sound s) where
       let v : n ≤ s .flow .acked = leb-true n (s .flow .acked) (sym (ap (λ (p : Bool). not p || leb n (s .flow .acked)) (z .0)) ∙ w) in
       omega (arith, v, z .1, h .lines j l e .kept (t .0, and-left (s .careful) (not (s .flow .present) || leb n (s .flow .acked)) (t .1)) k .0))
 
-  sound-wrote : (len : ℕ) (opted : Bool) → isDone (answerOf (writeRows len opted s)) ≡ true → Sound (wrote opted s)
+  sound-wrote : (len : ℕ) (opted : Bool) → isDone (answerOf (writeRefusals len opted s)) ≡ true → Sound (wrote opted s)
   sound-wrote len opted d =
       record {
         lines = λ j l′ e. let w = find-map note j (s .lines) l′ e in each j l′ (w .0) (w .1) (w .2);
@@ -95,11 +95,11 @@ module _ (s : State) (h : Sound s) where
       note : Reader → Reader
       note = notified (s .flow .last + 1)
 
-      c : Clear (writeRows len opted s)
-      c = done-clear (writeRows len opted s) d
+      c : Clear (writeRefusals len opted s)
+      c = done-clear (writeRefusals len opted s) d
 
       flow′ : Fits (admitted (s .flow) opted)
-      flow′ = fits-admitted (s .flow) (h .flow) opted (c .used-up) (c .store-full)
+      flow′ = fits-admitted (s .flow) (h .flow) opted (c 5 refl) (c 7 refl)
 
       stands : (j : ℕ) (l : Line) → Held (s .heads) j l → Held (s .heads) j (onServer (notified (s .flow .last + 1)) l)
       stands j l o = record { some-id = o .some-id; there = o .there; head = o .head }
@@ -117,7 +117,7 @@ module _ (s : State) (h : Sound s) where
   sound-arrive i (sample n) w g = sound-upd s h i (onModel (gotData n)) (λ l. refl) (λ j l e q. fine-data (s .flow) (s .careful) (s .net) l (h .lines j l e) n (w .0) (w .1))
   sound-arrive i (gap n) w g = sound-upd s h i (onModel (gotGap n)) (λ l. refl) (λ j l e q. fine-gap (s .flow) (s .careful) (s .net) l (h .lines j l e) n (w .0) (w .1) (λ t k. g l j e q (k .2) t k))
   sound-arrive i (beat k) w g = sound-upd s h i (onModel (gotBeat k)) (λ l. refl) (λ j l e q. fine-beat (s .flow) (s .careful) (s .net) l (h .lines j l e) k w)
-  sound-arrive i (ack z) w g = sound-tried (ackRows i z s) s (acknowledges i z s) h (sound-ack s h i z g)
+  sound-arrive i (ack z) w g = sound-tried (ackRefusals i z s) s (acknowledges i z s) h (sound-ack s h i z g)
 
   sound-arrives : (k : ℕ) (o : Option Msg) → nth (s .net) k ≡ o → Sound (arrives o s)
   sound-arrives k none e = h
@@ -164,15 +164,15 @@ module _ (s : State) (h : Sound s) where
   sound-beat i (some l) e = sound-post s h i (beat (s .flow .last)) (h .ids i l e) (omega arith) (λ l′ e′. tt)
 
   pub sound-step : (e : Event) → Sound (step e s)
-  sound-step (match i r m) = sound-tried (matchRows i m s) s (joined i r m s) h (sound-joined s h i r m)
-  sound-step (depart i) = sound-tried (departRows i s) s (left i s) h (λ d. sound-left s h i)
-  sound-step (write len opted) = sound-tried (writeRows len opted s) s (wrote opted s) h (sound-wrote len opted)
+  sound-step (match i r m) = sound-tried (matchRefusals i m s) s (lineMatched i r m s) h (sound-joined s h i r m)
+  sound-step (depart i) = sound-tried (departRefusals i s) s (lineDeparted i s) h (λ d. sound-left s h i)
+  sound-step (write len opted) = sound-tried (writeRefusals len opted s) s (wrote opted s) h (sound-wrote len opted)
   sound-step (sentTo n) =
-      sound-tried (sentRows n s) s (withFlow (raised (rankOf n) (s .flow)) s) h
+      sound-tried (sentRefusals n s) s (stateWithFlow (raised (rankOf n) (s .flow)) s) h
       (λ d. sound-flow (raised (rankOf n) (s .flow)) (s .careful) refl refl refl (λ t. t)
-      (fits-raised (s .flow) (h .flow) (rankOf n) (done-clear (sentRows n s) d .range)) (λ l j e t k. h .lines j l e .kept t k .0))
+      (fits-raised (s .flow) (h .flow) (rankOf n) (done-clear (sentRefusals n s) d 2 refl)) (λ l j e t k. h .lines j l e .kept t k .0))
   sound-step (evictTo n) =
-      sound-tried (evictRows n s) s (evicts (rankOf n) s) h (λ d. sound-evicts (rankOf n) (done-clear (evictRows n s) d .range))
+      sound-tried (evictRefusals n s) s (evicts (rankOf n) s) h (λ d. sound-evicts (rankOf n) (done-clear (evictRefusals n s) d 2 refl))
   sound-step (call i d) = sound-call i d (find i (s .lines)) refl
   sound-step (heartbeat i) = sound-beat i (find i (s .lines)) refl
   sound-step (send i) = sound-send i (find i (s .lines)) refl

@@ -6,12 +6,11 @@ use mathlib.Core.Logic.{_⊎_, inl, inr}
 use mathlib.Core.List.{List, _∷_}
 use mathlib.Core.Option.{some}
 use Rattle.sets.specs.Sets.{has}
-use Rattle.numbers.specs.Refusals.{answerOf, isDone}
-use Rattle.numbers.specs.declared.answer.Rows.{Rows}
-use Rattle.reader_list.specs.Readers.{Head, isThere, headAt, fits}
-use Rattle.reader_list.specs.Slots.{unknown}
+use Rattle.numbers.specs.Refusals.{answerOf, isDone, Rows}
+use Rattle.reader_list.specs.Readers.{Head, isThere, headAt, readersCoherent}
+use Rattle.reader_list.specs.Slots.{idUnknown}
 use Rattle.writer_send_buffer.proofs.Sound.{Fits}
-use Rattle.other_end.specs.System.{Line, Body, Msg, State, find, upd, nth, headOf, withLines, post, tried, step}
+use Rattle.other_end.specs.System.{Line, Body, Msg, State, find, upd, nth, lineHead, withLines, post, tried, step}
 use Rattle.other_end.proofs.Found.{some-msg, find-id, find-upd, find-kept, Apart, apart-upd}
 use Rattle.other_end.proofs.Heads.{Low}
 use Rattle.other_end.proofs.Fine.{Sane, Good, Fine, fine-post}
@@ -20,18 +19,18 @@ use Rattle.other_end.proofs.Fine.{Sane, Good, Fine, fine-post}
 pub record Held (hs : List Head) (i : ℕ) (l : Line) : Type 0 where
   pub some-id : i ≡ 0 → ⊥
   pub there : isThere i hs ≡ true
-  pub head : headAt i hs ≡ headOf l
+  pub head : headAt i hs ≡ lineHead l
 
 pub record Sound (s : State) : Type 0 where
   pub lines : (i : ℕ) (l : Line) → find i (s .lines) ≡ some l → Fine (s .flow) (s .careful) (s .net) l
   pub held : (i : ℕ) (l : Line) → find i (s .lines) ≡ some l → Held (s .heads) i l
   pub flow : Fits (s .flow)
-  pub list : fits (s .heads) ≡ true
+  pub list : readersCoherent (s .heads) ≡ true
   pub low : Low (s .flow .last) (s .heads)
   pub ids : (i : ℕ) (l : Line) → find i (s .lines) ≡ some l → has (s .used) i ≡ true
   pub tags : (k : ℕ) (m : Msg) → nth (s .net) k ≡ some m → has (s .used) (m .line) ≡ true
   pub sane : (k : ℕ) (m : Msg) → nth (s .net) k ≡ some m → Sane (s .flow .last) (m .body)
-  pub known : (i : ℕ) → unknown i (s .heads) ≡ false → (l : Line) × (find i (s .lines) ≡ some l)
+  pub known : (i : ℕ) → idUnknown i (s .heads) ≡ false → (l : Line) × (find i (s .lines) ≡ some l)
   pub apart : Apart (s .lines)
 
 pub sound-tried : (r : Rows) (x y : State) → Sound x → (isDone (answerOf r) ≡ true → Sound y) → Sound (tried r x y)
@@ -43,7 +42,7 @@ sound-tried r x y p q = go (isDone (answerOf r)) refl
 
 module _ (s : State) (h : Sound s) where
   -- lines with the id i changed, in a way that leaves their heads
-  pub sound-upd : (i : ℕ) (g : Line → Line) → ((l : Line) → headOf (g l) ≡ headOf l) → ((j : ℕ) (l : Line) → find j (s .lines) ≡ some l → i ≡ l .id → Fine (s .flow) (s .careful) (s .net) (g l))
+  pub sound-upd : (i : ℕ) (g : Line → Line) → ((l : Line) → lineHead (g l) ≡ lineHead l) → ((j : ℕ) (l : Line) → find j (s .lines) ≡ some l → i ≡ l .id → Fine (s .flow) (s .careful) (s .net) (g l))
       → Sound (withLines (upd i g (s .lines)) s)
   sound-upd i g keeps fine =
       record {
@@ -67,7 +66,7 @@ module _ (s : State) (h : Sound s) where
       each j l′ l e (inr w) = subst (λ (x : Line). Fine (s .flow) (s .careful) (s .net) x) (sym (w .1)) (h .lines j l e)
 
       stands : (j : ℕ) (l′ l : Line) → Held (s .heads) j l → ((i ≡ l .id) × (l′ ≡ g l)) ⊎ (((i ≡ j) → ⊥) × (l′ ≡ l)) → Held (s .heads) j l′
-      stands j l′ l d (inl w) = record { some-id = d .some-id; there = d .there; head = d .head ∙ sym (keeps l) ∙ ap headOf (sym (w .1)) }
+      stands j l′ l d (inl w) = record { some-id = d .some-id; there = d .there; head = d .head ∙ sym (keeps l) ∙ ap lineHead (sym (w .1)) }
       stands j l′ l d (inr w) = subst (λ (x : Line). Held (s .heads) j x) (sym (w .1)) d
 
   pub sound-post : (i : ℕ) (b : Body) → has (s .used) i ≡ true → Sane (s .flow .last) b → ((l : Line) → find i (s .lines) ≡ some l → Good (s .flow) (s .careful) l b) → Sound (post i b s)

@@ -5,8 +5,7 @@ use mathlib.Core.Bool.{false}
 use mathlib.Core.List.{[]}
 use lib.ListN.{length}
 use Rattle.numbers.specs.Number.{rankOf, negative}
-use Rattle.numbers.specs.Refusals.{rowsOf}
-use Rattle.numbers.specs.declared.answer.Rows.{Rows}
+use Rattle.numbers.specs.Refusals.{Rows}
 use Rattle.numbers.specs.declared.sequence_number.SequenceNumber.{SequenceNumber}
 use Rattle.numbers.specs.declared.fragment_number.FragmentNumber.{FragmentNumber}
 use Rattle.number_sets.specs.declared.fragment_number_set.FragmentNumberSet.{FragmentNumberSet}
@@ -16,18 +15,18 @@ use Rattle.rtps_reader_proxy.specs.Reader.{Reader, markedSent, removedBefore, g
 use Rattle.rtps_reader_proxy.specs.Gaps.{memberRows, endRows}
 use Rattle.rtps_reader_proxy.specs.Fragments.{requestRows}
 
-pub data Call : Type 0 where
+pub data ReaderCall : Type 0 where
   -- a single gap member, and a gap's prefix end
-  gapAt : SequenceNumber → Call
-  gapTo : SequenceNumber → Call
+  gapAt : SequenceNumber → ReaderCall
+  gapTo : SequenceNumber → ReaderCall
   -- fragments of a sample requested, and one of them marked sent
-  askFrags : SequenceNumber → FragmentNumberSet → Call
-  sentFrag : SequenceNumber → FragmentNumber → Call
+  askFrags : SequenceNumber → FragmentNumberSet → ReaderCall
+  sentFrag : SequenceNumber → FragmentNumber → ReaderCall
   -- an unsent number marked sent, and all below a number removed
-  markSent : SequenceNumber → Call
-  removeBefore : SequenceNumber → Call
+  markSent : SequenceNumber → ReaderCall
+  removeBefore : SequenceNumber → ReaderCall
 
-abbrev pub result : Call → Reader → Reader
+abbrev pub result : ReaderCall → Reader → Reader
 result (gapAt n) r = gapInserted (rankOf n) r
 result (gapTo e) r = gapUpTo (rankOf e) r
 result (askFrags n z) r = fragsRequested (rankOf n) (members (fragmentSet z)) r
@@ -36,10 +35,10 @@ result (markSent n) r = markedSent (rankOf n) r
 result (removeBefore n) r = removedBefore (rankOf n) r
 
 -- by the last number written; what takes any number isn't refused
-abbrev pub callRows : ℕ → Call → Reader → Rows
-callRows last (gapAt n) r = rowsOf (memberRows false last (rankOf n) (length (r .gaps)) r)
-callRows last (gapTo e) r = rowsOf (endRows false last (negative e) (rankOf e))
-callRows last (askFrags n z) r = rowsOf (requestRows (rankOf n) (fragmentSet z) (length (r .frags)) r)
-callRows last (sentFrag n f) r = rowsOf []
-callRows last (markSent n) r = rowsOf []
-callRows last (removeBefore n) r = rowsOf []
+abbrev pub callRows : ℕ → ReaderCall → Reader → Rows
+callRows last (gapAt n) r = memberRows false last (rankOf n) (length (r .gaps)) r
+callRows last (gapTo e) r = endRows false last (negative e) (rankOf e)
+callRows last (askFrags n z) r = requestRows (rankOf n) (fragmentSet z) (length (r .frags)) r
+callRows last (sentFrag n f) r = []
+callRows last (markSent n) r = []
+callRows last (removeBefore n) r = []

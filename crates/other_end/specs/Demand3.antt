@@ -14,6 +14,7 @@ use Rattle.other_end.specs.System.{Line, State, Event, find, run, start}
 use Rattle.other_end.specs.Rounds.{Round, Rounds, cleanRound, cleanRounds}
 use Rattle.other_end.specs.Coherent.{Coherent}
 use Rattle.other_end.specs.AsCalled.{Starts, AsCalled}
+use Rattle.numbers.specs.Capacities.{mostReaders, mostBits}
 
 -- a state that the system comes to, from a new writer of any kind with any limits of the table and room for 1 to 64 readers, by any events in any order
 pub record Reached (s : State) : Type 0 where
@@ -22,7 +23,7 @@ pub record Reached (s : State) : Type 0 where
   pub slots : ℕ
   pub allowed : allowed limits ≡ true
   pub some : 1 ≤ slots
-  pub few : slots ≤ 64
+  pub few : slots ≤ mostReaders
   pub events : List Event
   pub comes : run events (start kind limits slots) ≡ s
 
@@ -52,8 +53,8 @@ abbrev pub StaysKept : State → State → ℕ → Line → Line → Type 0
 StaysKept s s′ i l l′ = Kept s i l → s′ .careful ≡ true → Kept s′ i l′ × ((n : ℕ) → 1 ≤ n → n < base (l′ .model) → HasData l′ n)
 
 -- what a clean round makes of the line l, where `last` is the last number written
-pub record Moved (last : ℕ) (l l′ : Line) : Type 0 where
-  pub on : (n : ℕ) → base (l .model) + n ≡ suc last → base (l .model) + min n (min 256 (l .server .cap)) ≤ base (l′ .model)
+pub record MovedOn (last : ℕ) (l l′ : Line) : Type 0 where
+  pub on : (n : ℕ) → base (l .model) + n ≡ suc last → base (l .model) + min n (min mostBits (l .server .cap)) ≤ base (l′ .model)
   pub within : base (l′ .model) ≤ suc last
   pub agree : l′ .server .acked ≡ base (l′ .model)
   pub clear : base (l′ .model) ≡ suc last → l′ .server .unsent ≡ []
@@ -74,7 +75,7 @@ pub record Demand3 : Type 0 where
   -- 3. A CLEAN ROUND moves any line on, in whatever order its numbers are sent and received, and whatever else but a write goes on beside it; one by one
   -- is such an order. A kept line stays kept, so that what it gained came as data
   pub round : (s s′ : State) (i : ℕ) (l : Line) → Present s i l → Round i s s′
-      → (l′ : Line) × Present s′ i l′ × (s′ .flow .last ≡ s .flow .last) × (l′ .server .cap ≡ l .server .cap) × Moved (s .flow .last) l l′ × StaysKept s s′ i l l′
+      → (l′ : Line) × Present s′ i l′ × (s′ .flow .last ≡ s .flow .last) × (l′ .server .cap ≡ l .server .cap) × MovedOn (s .flow .last) l l′ × StaysKept s s′ i l l′
   pub one-by-one : (s : State) (i : ℕ) (l : Line) → Present s i l → Round i s (cleanRound i s)
   -- 4. BEYOND THE DEMAND: any line, a late one too, is credited only with what it received or was told as a gap
   pub told : (s : State) (i : ℕ) (l : Line) → Present s i l → (n : ℕ) → 1 ≤ n → n < l .server .acked → HasSettled l n
@@ -82,7 +83,7 @@ pub record Demand3 : Type 0 where
   -- after every one of them both ends hold the same next number; and a kept line stays kept
   pub level : (s s′ : State) (i r : ℕ) (l : Line) → Present s i l → Rounds i r s s′
       → (l′ : Line) × Present s′ i l′ × (s′ .flow .last ≡ s .flow .last)
-      × ((n : ℕ) → base (l .model) + n ≡ suc (s .flow .last) → roundsFor n (min 256 (l .server .cap)) ≤ r → base (l′ .model) ≡ suc (s .flow .last))
+      × ((n : ℕ) → base (l .model) + n ≡ suc (s .flow .last) → roundsFor n (min mostBits (l .server .cap)) ≤ r → base (l′ .model) ≡ suc (s .flow .last))
       × (1 ≤ r → (l′ .server .acked ≡ base (l′ .model)) × (base (l′ .model) ≡ suc (s .flow .last) → l′ .server .unsent ≡ []))
       × StaysKept s s′ i l l′
   -- and such rounds can always be had, as many as one likes

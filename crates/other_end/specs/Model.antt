@@ -5,6 +5,7 @@ use mathlib.Core.List.{List, [], _∷_}
 use lib.Dec.{eqb}
 use Rattle.sets.specs.Sets.{has, insert, those}
 use Rattle.number_sets.specs.Bits.{NumberSet, wordsFor}
+use Rattle.numbers.specs.Capacities.{mostBits}
 
 -- the smallest number from b on that is not in a set that rises from b
 abbrev pub gapFrom : ℕ → List ℕ → ℕ
@@ -42,11 +43,11 @@ base m = gapFrom 1 (m .settled)
 
 -- "all unsettled numbers from base through the smaller of known and base+255": so many numbers are looked at, and these are asked for
 abbrev pub bits : Model → ℕ
-bits m = min (suc (m .known) - base m) 256
+bits m = min (suc (m .known) - base m) mostBits
 
-abbrev pub asked : Model → List ℕ
-asked m = missing (bits m) (base m) (m .settled)
+abbrev pub modelAsks : Model → List ℕ
+modelAsks m = missing (bits m) (base m) (m .settled)
 
 -- "Its ACKNACK has that base, and as members" these, in the words of RTPS
 abbrev pub ackNack : Model → NumberSet
-ackNack m = record { base = base m; count = bits m; words = wordsFor (base m) (asked m) }
+ackNack m = record { base = base m; count = bits m; words = wordsFor (base m) (modelAsks m) }

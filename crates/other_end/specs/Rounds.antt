@@ -65,8 +65,8 @@ pub record Arrives (i : ℕ) (e : Event) (s : State) : Type 0 where
 
 -- between the two ACKNACKs what is sent to the line i arrives too, in any order, any number of times, among events beside it. What was sent to it before
 -- may arrive as well, though document 01's round has no such delivery
-abbrev pub Allowed : ℕ → Event → State → Type 0
-Allowed i e s = Beside i e s ⊎ Arrives i e s
+abbrev pub RoundEvent : ℕ → Event → State → Type 0
+RoundEvent i e s = Beside i e s ⊎ Arrives i e s
 
 -- what a message says is settled at the line
 abbrev pub SettledAt : Line → Body → Type 0
@@ -89,7 +89,7 @@ pub record Round (i : ℕ) (s s′ : State) : Type 0 where
   pub begun : State
   pub first : Carried i (reply i) (run before heard) begun
   pub events : List Event
-  pub exchange : Each (Allowed i) events begun
+  pub exchange : Each (RoundEvent i) events begun
   pub drained : (l : Line) → find i (run events begun .lines) ≡ some l → l .server .unsent ≡ []
   pub received : (l : Line) → find i (run events begun .lines) ≡ some l → Received i (length (begun .net)) l (run events begun)
   pub second : Carried i (reply i) (run events begun) s′
@@ -97,12 +97,12 @@ pub record Round (i : ℕ) (s s′ : State) : Type 0 where
 -- ONE BY ONE, with nothing beside it: a clean round that computes
 
 -- the heartbeat, and the first ACKNACK taken: the newest message is `deliver 0`'s
-abbrev pub opened : ℕ → State → State
-opened i s = run (heartbeat i ∷ deliver 0 ∷ reply i ∷ deliver 0 ∷ []) s
+abbrev pub roundOpened : ℕ → State → State
+roundOpened i s = run (heartbeat i ∷ deliver 0 ∷ reply i ∷ deliver 0 ∷ []) s
 
 -- the second ACKNACK taken
-abbrev pub closed : ℕ → State → State
-closed i s = run (reply i ∷ deliver 0 ∷ []) s
+abbrev pub roundClosed : ℕ → State → State
+roundClosed i s = run (reply i ∷ deliver 0 ∷ []) s
 
 -- n unsent numbers, each sent and at once received
 abbrev pub sends : ℕ → ℕ → List Event
@@ -117,7 +117,7 @@ abbrev pub drained : ℕ → State → State
 drained i s = run (sends i (unsentOf (find i (s .lines)))) s
 
 abbrev pub cleanRound : ℕ → State → State
-cleanRound i s = closed i (drained i (opened i s))
+cleanRound i s = roundClosed i (drained i (roundOpened i s))
 
 -- SEVERAL ROUNDS, with anything before each but a write and the line's departure
 

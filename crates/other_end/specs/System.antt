@@ -9,20 +9,19 @@ use lib.Dec.{leb, eqb}
 use lib.ListN.{replicate}
 use Rattle.sets.specs.Sets.{has}
 use Rattle.numbers.specs.Number.{rankOf}
-use Rattle.numbers.specs.Refusals.{unless}
-use Rattle.numbers.specs.declared.answer.Rows.{Rows}
+use Rattle.numbers.specs.Refusals.{unless, Rows}
 use Rattle.numbers.specs.declared.sequence_number.SequenceNumber.{SequenceNumber}
 use Rattle.number_sets.specs.Bits.{NumberSet, members}
 use Rattle.rtps_reader_proxy.specs.Reader.{Reader, fresh, ackedAfter, acknowledge, notified, markedSent}
 use Rattle.rtps_reader_proxy.specs.Acks.{ackRowsOf}
 use Rattle.reader_list.specs.Readers.{Head, free, frontier, headAt, matched, departed, acknowledged}
-use Rattle.reader_list.specs.Slots.{unknown, matchRowsOf, departRowsOf}
+use Rattle.reader_list.specs.Slots.{idUnknown, matchRowsOf, departRowsOf}
 use Rattle.writer_send_buffer.specs.declared.limits.Kind.{Kind}
 use Rattle.writer_send_buffer.specs.declared.limits.Limits.{Limits}
 use Rattle.writer_send_buffer.specs.Flow.{Flow, blank, admitRows, admitted, ahead, unwritten, stored, raised, evicted, retained}
 use Rattle.writer_send_buffer.specs.Buffer.{ranged}
 use Rattle.other_end.specs.Model.{Model, unread, gotData, gotGap, gotBeat, ackNack}
-use Rattle.other_end.specs.Calls.{Call, result, callRows}
+use Rattle.other_end.specs.Calls.{ReaderCall, result, callRows}
 
 -- THE STATE
 
@@ -65,7 +64,7 @@ pub data Event : Type 0 where
   write : ℕ → Bool → Event
   sentTo : SequenceNumber → Event
   evictTo : SequenceNumber → Event
-  call : ℕ → Call → Event
+  call : ℕ → ReaderCall → Event
   heartbeat : ℕ → Event
   send : ℕ → Event
   reply : ℕ → Event
@@ -89,8 +88,8 @@ nth (m ∷ ms) zero = some m
 nth (m ∷ ms) (suc k) = nth ms k
 
 -- the head that stands in the reader list for a line
-abbrev pub headOf : Line → Head
-headOf l = record { id = l .id; reliable = l .reliable; acked = l .server .acked }
+abbrev pub lineHead : Line → Head
+lineHead l = record { id = l .id; reliable = l .reliable; acked = l .server .acked; below = false }
 
 abbrev pub onServer : (Reader → Reader) → Line → Line
 onServer f l = record { id = l .id; reliable = l .reliable; since = l .since; anew = l .anew; server = f (l .server); model = l .model }
@@ -101,8 +100,8 @@ onModel f l = record { id = l .id; reliable = l .reliable; since = l .since; ane
 abbrev pub withLines : List Line → State → State
 withLines ls s = record { flow = s .flow; heads = s .heads; lines = ls; used = s .used; careful = s .careful; net = s .net }
 
-abbrev pub withFlow : Flow → State → State
-withFlow f s = record { flow = f; heads = s .heads; lines = s .lines; used = s .used; careful = s .careful; net = s .net }
+abbrev pub stateWithFlow : Flow → State → State
+stateWithFlow f s = record { flow = f; heads = s .heads; lines = s .lines; used = s .used; careful = s .careful; net = s .net }
 
 abbrev pub post : ℕ → Body → State → State
 post i b s = record { flow = s .flow; heads = s .heads; lines = s .lines; used = s .used; careful = s .careful; net = record { line = i; body = b } ∷ s .net }
@@ -116,17 +115,17 @@ tried rows s done = unless rows (λ a. s) done
 -- what refuses each step are the rows of its calls. No record of the system is ever incoherent (`Coherent`), so that test is `true` here; that the calls'
 -- own tests and answers come to the same is `AsCalled`
 
-abbrev pub matchRows : ℕ → ℕ → State → Rows
-matchRows i m s = matchRowsOf true m i (s .heads)
+abbrev pub matchRefusals : ℕ → ℕ → State → Rows
+matchRefusals i m s = matchRowsOf true m i (s .heads)
 
-abbrev pub departRows : ℕ → State → Rows
-departRows i s = departRowsOf true i (s .heads)
+abbrev pub departRefusals : ℕ → State → Rows
+departRefusals i s = departRowsOf true i (s .heads)
 
 abbrev pub newcomer : ℕ → Bool → ℕ → State → Line
 newcomer i r m s = record { id = i; reliable = r; since = s .flow .last; anew = not (has (s .used) i); server = fresh m; model = unread }
 
-abbrev pub joined : ℕ → Bool → ℕ → State → State
-joined i r m s =
+abbrev pub lineMatched : ℕ → Bool → ℕ → State → State
+lineMatched i r m s =
     record {
       flow = stored (frontier (matched i r (s .heads))) (s .flow);
       heads = matched i r (s .heads);
@@ -136,8 +135,8 @@ joined i r m s =
       net = s .net;
     }
 
-abbrev pub left : ℕ → State → State
-left i s =
+abbrev pub lineDeparted : ℕ → State → State
+lineDeparted i s =
     record {
       flow = stored (frontier (departed i (s .heads))) (s .flow);
       heads = departed i (s .heads);
@@ -148,8 +147,8 @@ left i s =
     }
 
 -- a base of natural numbers isn't negative, and `last` is never out of its range
-abbrev pub ackRows : ℕ → NumberSet → State → Rows
-ackRows i z s = ackRowsOf true z false (unknown i (s .heads)) (s .flow .last)
+abbrev pub ackRefusals : ℕ → NumberSet → State → Rows
+ackRefusals i z s = ackRowsOf true z false (idUnknown i (s .heads)) (s .flow .last)
 
 abbrev pub ackedHeads : ℕ → NumberSet → State → List Head
 ackedHeads i z s = acknowledged i (ackedAfter (headAt i (s .heads) .acked) (z .base)) (s .heads)
@@ -166,20 +165,20 @@ acknowledges i z s =
     }
 
 -- another call on one reader's record; 11 if there is none
-abbrev pub called : ℕ → Call → Option Line → State → State
+abbrev pub called : ℕ → ReaderCall → Option Line → State → State
 called i c none s = s
 called i c (some l) s = tried (callRows (s .flow .last) c (l .server)) s (withLines (upd i (onServer (result c)) (s .lines)) s)
 
 -- THE NUMBERS
 
-abbrev pub writeRows : ℕ → Bool → State → Rows
-writeRows len opted s = admitRows true len (s .flow) opted
+abbrev pub writeRefusals : ℕ → Bool → State → Rows
+writeRefusals len opted s = admitRows true len (s .flow) opted
 
-abbrev pub sentRows : SequenceNumber → State → Rows
-sentRows n s = ranged true (unwritten (rankOf n) (s .flow))
+abbrev pub sentRefusals : SequenceNumber → State → Rows
+sentRefusals n s = ranged true (unwritten (rankOf n) (s .flow))
 
-abbrev pub evictRows : SequenceNumber → State → Rows
-evictRows n s = ranged true (ahead (rankOf n) (s .flow))
+abbrev pub evictRefusals : SequenceNumber → State → Rows
+evictRefusals n s = ranged true (ahead (rankOf n) (s .flow))
 
 -- "It notifies every reader of each admitted number"
 abbrev pub wrote : Bool → State → State
@@ -211,7 +210,7 @@ abbrev pub arrive : ℕ → Body → State → State
 arrive i (sample n) s = withLines (upd i (onModel (gotData n)) (s .lines)) s
 arrive i (gap n) s = withLines (upd i (onModel (gotGap n)) (s .lines)) s
 arrive i (beat k) s = withLines (upd i (onModel (gotBeat k)) (s .lines)) s
-arrive i (ack z) s = tried (ackRows i z s) s (acknowledges i z s)
+arrive i (ack z) s = tried (ackRefusals i z s) s (acknowledges i z s)
 
 abbrev pub arrives : Option Msg → State → State
 arrives none s = s
@@ -237,11 +236,11 @@ replyFrom i (some l) s = post i (ack (ackNack (l .model))) s
 -- A STEP
 
 abbrev pub step : Event → State → State
-step (match i r m) s = tried (matchRows i m s) s (joined i r m s)
-step (depart i) s = tried (departRows i s) s (left i s)
-step (write len opted) s = tried (writeRows len opted s) s (wrote opted s)
-step (sentTo n) s = tried (sentRows n s) s (withFlow (raised (rankOf n) (s .flow)) s)
-step (evictTo n) s = tried (evictRows n s) s (evicts (rankOf n) s)
+step (match i r m) s = tried (matchRefusals i m s) s (lineMatched i r m s)
+step (depart i) s = tried (departRefusals i s) s (lineDeparted i s)
+step (write len opted) s = tried (writeRefusals len opted s) s (wrote opted s)
+step (sentTo n) s = tried (sentRefusals n s) s (stateWithFlow (raised (rankOf n) (s .flow)) s)
+step (evictTo n) s = tried (evictRefusals n s) s (evicts (rankOf n) s)
 step (call i c) s = called i c (find i (s .lines)) s
 step (heartbeat i) s = beatTo i (find i (s .lines)) s
 step (send i) s = sendTo i (find i (s .lines)) s

@@ -16,7 +16,7 @@ use Rattle.reader_list.specs.declared.ids.Sought.{Sought}
 use Rattle.reader_list.specs.declared.ids.Met.{Met}
 use Rattle.reader_list.specs.Readers.{isThere, different}
 use Rattle.reader_list.specs.Slots.{readers, freeSlot}
-use Rattle.reader_list.specs.Alone.{soughtFor, soughtOn, aloneEnd, alone, aloneFrom, noneMet, lowBit, meetSlot, startOf, toldAlone}
+use Rattle.reader_list.specs.Alone.{soughtFor, soughtOn, aloneEnd, alone, aloneFrom, noneMet, idBit, meetSlot, lookFrom, toldAlone}
 
 -- ---- those after a slot: the id stays, and what was found is found
 sought-all : (hs : List ReaderHead) (i : ℕ) (found : Bool) → foldl soughtOn (record { id = i; found = found }) hs ≡ record { id = i; found = found || isThere i (readers hs) }
@@ -58,14 +58,14 @@ gone [] = noneMet
 gone (h ∷ hs) = toldAlone (meetSlot (gone hs) h) (alone (cond (meetSlot (gone hs) h .again) hs []) h)
 
 -- where a slot has an id, its bit is there
-low-has : (i : ℕ) (hs : List ReaderHead) → isThere i (readers hs) ≡ true → bitOr (gone hs .low) (lowBit i) ≡ gone hs .low
+low-has : (i : ℕ) (hs : List ReaderHead) → isThere i (readers hs) ≡ true → bitOr (gone hs .low) (idBit i) ≡ gone hs .low
 low-has i [] e = absurd (false≢true e)
 low-has i (h ∷ hs) e = go (low-has i hs) (eqb (h .id) i) refl e
   where
-    go : (isThere i (readers hs) ≡ true → bitOr (gone hs .low) (lowBit i) ≡ gone hs .low) → (b : Bool) → eqb (h .id) i ≡ b → (b || isThere i (readers hs)) ≡ true
-        → bitOr (bitOr (gone hs .low) (lowBit (h .id))) (lowBit i) ≡ bitOr (gone hs .low) (lowBit (h .id))
-    go had true q t = ap (λ (k : ℕ). bitOr (bitOr (gone hs .low) (lowBit (h .id))) (lowBit k)) (sym (eqb-true (h .id) i q)) ∙ or-in (gone hs .low) (lowBit (h .id))
-    go had false q t = or-still (gone hs .low) (lowBit i) (lowBit (h .id)) (had t)
+    go : (isThere i (readers hs) ≡ true → bitOr (gone hs .low) (idBit i) ≡ gone hs .low) → (b : Bool) → eqb (h .id) i ≡ b → (b || isThere i (readers hs)) ≡ true
+        → bitOr (bitOr (gone hs .low) (idBit (h .id))) (idBit i) ≡ bitOr (gone hs .low) (idBit (h .id))
+    go had true q t = ap (λ (k : ℕ). bitOr (bitOr (gone hs .low) (idBit (h .id))) (idBit k)) (sym (eqb-true (h .id) i q)) ∙ or-in (gone hs .low) (idBit (h .id))
+    go had false q t = or-still (gone hs .low) (idBit i) (idBit (h .id)) (had t)
 
 -- so a slot whose bit is new stands alone
 or-yes : (b : Bool) → (b || true) ≡ true
@@ -75,7 +75,7 @@ or-yes false = refl
 new-alone : (h : ReaderHead) (hs : List ReaderHead) → meetSlot (gone hs) h .again ≡ false → alone hs h ≡ true
 new-alone h hs e = go (eqb (h .id) 0) (isThere (h .id) (readers hs)) refl e
   where
-    go : (z t : Bool) → isThere (h .id) (readers hs) ≡ t → (eqb (bitOr (gone hs .low) (lowBit (h .id))) (gone hs .low) && not z) ≡ false → (z || not t) ≡ true
+    go : (z t : Bool) → isThere (h .id) (readers hs) ≡ t → (eqb (bitOr (gone hs .low) (idBit (h .id))) (gone hs .low) && not z) ≡ false → (z || not t) ≡ true
     go true t q n = refl
     go false false q n = refl
     go false true q n = absurd (false≢true (sym n ∙ (λ i. eq-eqb _ _ (low-has (h .id) hs q) i && true)))
@@ -90,7 +90,7 @@ gone-fine (h ∷ hs) = go (gone-fine hs) (meetSlot (gone hs) h .again) refl
 
 -- ---- one slot more, as the walk takes it
 pub gone-more : (hs : List ReaderHead) → length hs < 2 ^ 64 → (i : ℕ) → 0 < i → i ≤ length hs
-    → toldAlone (meetSlot (gone (drop i hs)) (getD hs (i - 1) freeSlot)) (aloneFrom hs (startOf (meetSlot (gone (drop i hs)) (getD hs (i - 1) freeSlot)) i) (getD hs (i - 1) freeSlot)) ≡ gone (drop (i - 1) hs)
+    → toldAlone (meetSlot (gone (drop i hs)) (getD hs (i - 1) freeSlot)) (aloneFrom hs (lookFrom (meetSlot (gone (drop i hs)) (getD hs (i - 1) freeSlot)) i) (getD hs (i - 1) freeSlot)) ≡ gone (drop (i - 1) hs)
 gone-more hs few i more there = ap (toldAlone m) (go (m .again)) ∙ ap gone (sym split)
   where
     h : ReaderHead

@@ -7,22 +7,22 @@ use native.Mathlib.Nat.{add-zero, zero-add}
 use native.Mathlib.Omega.{arith}
 use lib.Dec.{ltb, leb, eqb}
 use lib.ListN.{length, getD}
-use borrow.Author.Tests.{lt-ltb, le-ltb, ltb-true, ltb-false, leb-true, leb-false}
+use borrow.Author.Tests.{lt-ltb, le-ltb, le-leb, ltb-true, ltb-false, leb-true, leb-false}
 use Rattle.sets.proofs.Bools.{and-assoc, and-yes, and-left, and-right}
 use Rattle.numbers.specs.Number.{rankOf}
 use Rattle.reader_list.specs.declared.heads.ReaderHead.{ReaderHead}
 use Rattle.reader_list.specs.declared.walk.Ask.{Ask}
 use Rattle.reader_list.specs.declared.walk.Seen.{Seen}
-use Rattle.reader_list.specs.Readers.{Head, meet, frontier, placeOf, isThere, slotFits, slotsFit, different}
-use Rattle.reader_list.specs.Slots.{headOf, readers, isCoherent, freeSlot}
-use Rattle.reader_list.specs.Walk.{begun, counted, seenStep, isWhole, isFound, hasFree}
+use Rattle.reader_list.specs.Readers.{Head, meet, frontier, placeOfId, isThere, slotCoherent, slotsCoherent, different}
+use Rattle.reader_list.specs.Slots.{headView, readers, listCoherent, freeSlot}
+use Rattle.reader_list.specs.Walk.{walkBegun, slotCounted, seenStep, walkCoherent, isFound, hasFree}
 
 pub length-readers : (hs : List ReaderHead) → length (readers hs) ≡ length hs
 length-readers [] = refl
 length-readers (h ∷ hs) = ap suc (length-readers hs)
 
 -- ---- a place below the length is that of a reader
-pub place-there : (i : ℕ) (hs : List Head) → ltb (placeOf i hs) (length hs) ≡ isThere i hs
+pub place-there : (i : ℕ) (hs : List Head) → ltb (placeOfId i hs) (length hs) ≡ isThere i hs
 place-there i [] = le-ltb 0 0 (omega arith)
 place-there i (h ∷ hs) = go (eqb (h .id) i) (place-there i hs)
   where
@@ -33,9 +33,9 @@ place-there i (h ∷ hs) = go (eqb (h .id) i) (place-there i hs)
         step true e = let k = ltb-true a b e in lt-ltb (suc a) (suc b) (omega arith)
         step false e = let k = ltb-false a b e in le-ltb (suc a) (suc b) (omega arith)
 
-    go : (t : Bool) → ltb (placeOf i hs) (length hs) ≡ isThere i hs → ltb (cond t 0 (suc (placeOf i hs))) (suc (length hs)) ≡ (t || isThere i hs)
+    go : (t : Bool) → ltb (placeOfId i hs) (length hs) ≡ isThere i hs → ltb (cond t 0 (suc (placeOfId i hs))) (suc (length hs)) ≡ (t || isThere i hs)
     go true e = lt-ltb 0 (suc (length hs)) (omega arith)
-    go false e = less-suc (placeOf i hs) (length hs) ∙ e
+    go false e = less-suc (placeOfId i hs) (length hs) ∙ e
 
 -- ---- the frontier of two, and of three
 pub meet-is : (a b : ℕ) → (a ≡ 0 → ⊥) → 1 ≤ b → meet a b ≡ min a b
@@ -61,20 +61,20 @@ meet-assoc (suc a) (suc b) (suc c) = go (min (suc a) (suc b)) (min (suc b) (suc 
 -- ---- the walk, from any slot on
 pub record Gathered (s : Seen) (hs : List ReaderHead) (t : Seen) : Type 0 where
   pub count : t .count ≡ s .count + length hs
-  pub clean : t .clean ≡ (s .clean && slotsFit (readers hs))
+  pub clean : t .clean ≡ (s .clean && slotsCoherent (readers hs))
   pub different : t .different ≡ s .different
   pub found : s .at < s .count → (t .at ≡ s .at) × (t .head ≡ s .head)
-  pub sought : s .at ≡ s .count → (t .at ≡ s .count + placeOf (s .ask .id) (readers hs)) × (t .head ≡ getD hs (placeOf (s .ask .id) (readers hs)) (s .head))
+  pub sought : s .at ≡ s .count → (t .at ≡ s .count + placeOfId (s .ask .id) (readers hs)) × (t .head ≡ getD hs (placeOfId (s .ask .id) (readers hs)) (s .head))
   pub had : s .free < s .count → t .free ≡ s .free
-  pub wanted : s .free ≡ s .count → t .free ≡ s .count + placeOf 0 (readers hs)
+  pub wanted : s .free ≡ s .count → t .free ≡ s .count + placeOfId 0 (readers hs)
   pub front : t .front ≡ meet (s .front) (frontier (readers hs))
 
 module _ (s : Seen) (h : ReaderHead) (hs : List ReaderHead) (few : s .count + length (h ∷ hs) ≤ 64) where
   abbrev s′ : Seen
   s′ = seenStep s h
 
-  on : counted (s .count) ≡ s .count + 1
-  on = rw (lt-ltb (s .count) 65 (omega arith))
+  on : slotCounted (s .count) ≡ s .count + 1
+  on = rw (le-leb (s .count) 64 (omega arith))
 
   more : (n : ℕ) → s .count + 1 + n ≡ s .count + suc n
   more n = omega arith
@@ -101,14 +101,14 @@ module _ (s : Seen) (h : ReaderHead) (hs : List ReaderHead) (few : s .count + le
         let m : s′ .free < s′ .count = rw (a, on) (omega arith) in
         g .had m ∙ a
 
-    sought-on : s .at ≡ s .count → (t .at ≡ s .count + placeOf (s .ask .id) (readers (h ∷ hs))) × (t .head ≡ getD (h ∷ hs) (placeOf (s .ask .id) (readers (h ∷ hs))) (s .head))
+    sought-on : s .at ≡ s .count → (t .at ≡ s .count + placeOfId (s .ask .id) (readers (h ∷ hs))) × (t .head ≡ getD (h ∷ hs) (placeOfId (s .ask .id) (readers (h ∷ hs))) (s .head))
     sought-on e = go (eqb (h .id) (s .ask .id)) refl
       where
         n : ltb (s .at) (s .count) ≡ false
         n = le-ltb (s .at) (s .count) (omega arith)
 
         go : (b : Bool) → eqb (h .id) (s .ask .id) ≡ b
-            → (t .at ≡ s .count + cond b 0 (suc (placeOf (s .ask .id) (readers hs)))) × (t .head ≡ getD (h ∷ hs) (cond b 0 (suc (placeOf (s .ask .id) (readers hs)))) (s .head))
+            → (t .at ≡ s .count + cond b 0 (suc (placeOfId (s .ask .id) (readers hs)))) × (t .head ≡ getD (h ∷ hs) (cond b 0 (suc (placeOfId (s .ask .id) (readers hs)))) (s .head))
         go true q =
             let a : s′ .at ≡ s .at = rw (n, q) in
             let b : s′ .head ≡ h = rw (n, q) in
@@ -118,28 +118,28 @@ module _ (s : Seen) (h : ReaderHead) (hs : List ReaderHead) (few : s .count + le
             let a : s′ .at ≡ s′ .count = rw (n, q) in
             let b : s′ .head ≡ s .head = rw (n, q) in
             let w = g .sought a in
-            (w .0 ∙ ap (λ (x : ℕ). x + placeOf (s .ask .id) (readers hs)) on ∙ more (placeOf (s .ask .id) (readers hs)), w .1 ∙ ap (getD hs (placeOf (s .ask .id) (readers hs))) b)
+            (w .0 ∙ ap (λ (x : ℕ). x + placeOfId (s .ask .id) (readers hs)) on ∙ more (placeOfId (s .ask .id) (readers hs)), w .1 ∙ ap (getD hs (placeOfId (s .ask .id) (readers hs))) b)
 
-    wanted-on : s .free ≡ s .count → t .free ≡ s .count + placeOf 0 (readers (h ∷ hs))
+    wanted-on : s .free ≡ s .count → t .free ≡ s .count + placeOfId 0 (readers (h ∷ hs))
     wanted-on e = go (eqb (h .id) 0) refl
       where
         n : ltb (s .free) (s .count) ≡ false
         n = le-ltb (s .free) (s .count) (omega arith)
 
-        go : (b : Bool) → eqb (h .id) 0 ≡ b → t .free ≡ s .count + cond b 0 (suc (placeOf 0 (readers hs)))
+        go : (b : Bool) → eqb (h .id) 0 ≡ b → t .free ≡ s .count + cond b 0 (suc (placeOfId 0 (readers hs)))
         go true q =
             let a : s′ .free ≡ s .free = rw (n, q) in
             let m : s′ .free < s′ .count = rw (a, on) (omega arith) in
             g .had m ∙ a ∙ e ∙ sym (add-zero (s .count))
         go false q =
             let a : s′ .free ≡ s′ .count = rw (n, q) in
-            g .wanted a ∙ ap (λ (x : ℕ). x + placeOf 0 (readers hs)) on ∙ more (placeOf 0 (readers hs))
+            g .wanted a ∙ ap (λ (x : ℕ). x + placeOfId 0 (readers hs)) on ∙ more (placeOfId 0 (readers hs))
 
     gathered-on : Gathered s (h ∷ hs) t
     gathered-on =
         record {
           count = g .count ∙ ap (λ (n : ℕ). n + length hs) on ∙ more (length hs);
-          clean = g .clean ∙ and-assoc (s .clean) (slotFits (headOf h)) (slotsFit (readers hs));
+          clean = g .clean ∙ and-assoc (s .clean) (slotCoherent (headView h)) (slotsCoherent (readers hs));
           different = g .different;
           found = found-on;
           sought = sought-on;
@@ -169,19 +169,19 @@ gathered (h ∷ hs) s few =
     (gathered hs (seenStep s h) (rw (on s h hs few) (omega (arith, more s h hs few (length hs)))))
 
 -- ---- more than 64 slots
-counted-most : (n : ℕ) → n ≤ 65 → counted n ≤ 65
-counted-most n h = go (ltb n 65) refl
+counted-most : (n : ℕ) → n ≤ 65 → slotCounted n ≤ 65
+counted-most n h = go (leb n 64) refl
   where
-    go : (b : Bool) → ltb n 65 ≡ b → cond b (n + 1) n ≤ 65
-    go true e = let k = ltb-true n 65 e in omega arith
+    go : (b : Bool) → leb n 64 ≡ b → cond b (n + 1) n ≤ 65
+    go true e = let k = leb-true n 64 e in omega arith
     go false e = h
 
-counted-min : (n m : ℕ) → min 65 (counted n + m) ≡ min 65 (n + suc m)
-counted-min n m = go (ltb n 65) refl
+counted-min : (n m : ℕ) → min 65 (slotCounted n + m) ≡ min 65 (n + suc m)
+counted-min n m = go (leb n 64) refl
   where
-    go : (b : Bool) → ltb n 65 ≡ b → min 65 (cond b (n + 1) n + m) ≡ min 65 (n + suc m)
+    go : (b : Bool) → leb n 64 ≡ b → min 65 (cond b (n + 1) n + m) ≡ min 65 (n + suc m)
     go true e = omega arith
-    go false e = let k = ltb-false n 65 e in omega arith
+    go false e = let k = leb-false n 64 e in omega arith
 
 many : (hs : List ReaderHead) (s : Seen) → s .count ≤ 65 → foldl seenStep s hs .count ≡ min 65 (s .count + length hs)
 many [] s h = omega arith
@@ -195,7 +195,7 @@ asked (h ∷ hs) s = asked hs (seenStep s h)
 -- ---- the whole walk
 module _ (a : Ask) (hs : List ReaderHead) where
   abbrev start : Seen
-  start = begun a (different (readers hs))
+  start = walkBegun a (different (readers hs))
 
   abbrev end : Seen
   end = foldl seenStep start hs
@@ -207,19 +207,19 @@ module _ (a : Ask) (hs : List ReaderHead) where
     count-is : end .count ≡ length hs
     count-is = g .count ∙ zero-add (length hs)
 
-    whole-few : isWhole end ≡ isCoherent hs
+    whole-few : walkCoherent end ≡ listCoherent hs
     whole-few =
         let n : length (readers hs) ≡ length hs = length-readers hs in
         λ i. leb 1 ((count-is ∙ sym n) i) && (leb ((count-is ∙ sym n) i) 64 && (g .clean i && g .different i))
 
-    pub at-is : end .at ≡ placeOf (a .id) (readers hs)
-    at-is = g .sought refl .0 ∙ zero-add (placeOf (a .id) (readers hs))
+    pub at-is : end .at ≡ placeOfId (a .id) (readers hs)
+    at-is = g .sought refl .0 ∙ zero-add (placeOfId (a .id) (readers hs))
 
-    pub head-is : end .head ≡ getD hs (placeOf (a .id) (readers hs)) freeSlot
+    pub head-is : end .head ≡ getD hs (placeOfId (a .id) (readers hs)) freeSlot
     head-is = g .sought refl .1
 
-    pub free-is : end .free ≡ placeOf 0 (readers hs)
-    free-is = g .wanted refl ∙ zero-add (placeOf 0 (readers hs))
+    pub free-is : end .free ≡ placeOfId 0 (readers hs)
+    free-is = g .wanted refl ∙ zero-add (placeOfId 0 (readers hs))
 
     pub front-is : end .front ≡ frontier (readers hs)
     front-is = g .front
@@ -234,10 +234,10 @@ module _ (a : Ask) (hs : List ReaderHead) where
   and-false true = refl
   and-false false = refl
 
-  pub whole-is : isWhole end ≡ isCoherent hs
+  pub whole-is : walkCoherent end ≡ listCoherent hs
   whole-is = go (leb (length hs) 64) refl
     where
-      go : (b : Bool) → leb (length hs) 64 ≡ b → isWhole end ≡ isCoherent hs
+      go : (b : Bool) → leb (length hs) 64 ≡ b → walkCoherent end ≡ listCoherent hs
       go true e = whole-few (leb-true (length hs) 64 e)
       go false e =
           let k = leb-false (length hs) 64 e in
@@ -246,5 +246,5 @@ module _ (a : Ask) (hs : List ReaderHead) where
           rw (c, l) (and-false (leb 1 (length (readers hs))))
 
   -- a coherent list has at most 64 slots
-  pub few-of : isCoherent hs ≡ true → length hs ≤ 64
-  few-of e = subst (λ (n : ℕ). n ≤ 64) (length-readers hs) (leb-true (length (readers hs)) 64 (and-left (leb (length (readers hs)) 64) (slotsFit (readers hs) && different (readers hs)) (and-right (leb 1 (length (readers hs))) (leb (length (readers hs)) 64 && (slotsFit (readers hs) && different (readers hs))) e)))
+  pub few-of : listCoherent hs ≡ true → length hs ≤ 64
+  few-of e = subst (λ (n : ℕ). n ≤ 64) (length-readers hs) (leb-true (length (readers hs)) 64 (and-left (leb (length (readers hs)) 64) (slotsCoherent (readers hs) && different (readers hs)) (and-right (leb 1 (length (readers hs))) (leb (length (readers hs)) 64 && (slotsCoherent (readers hs) && different (readers hs))) e)))

@@ -4,9 +4,8 @@ use mathlib.Core.Path.{_≡_, ap, _∙_, refl}
 use mathlib.Core.Bool.{Bool, true, false, cond}
 use lib.Dec.{eqb}
 use borrow.Author.Tests.{ne-eqb, eqb-true, eqb-false}
-use Rattle.numbers.specs.Refusals.{answerOf, unless, done, isDone}
+use Rattle.numbers.specs.Refusals.{answerOf, unless, done, isDone, Rows}
 use Rattle.numbers.specs.declared.answer.Answer.{Answer}
-use Rattle.numbers.specs.declared.answer.Rows.{Rows}
 use Rattle.numbers.proofs.Refused.{is-refused, is-done, done-is}
 use Rattle.reader_list.specs.Walk.{nowhere}
 use Rattle.reader_list.specs.declared.heads.ReaderHead.{ReaderHead}
@@ -17,7 +16,7 @@ module _ (r : Rows) (a : Answer) (q : a ≡ answerOf r) where
   settled outcome refusal k = go (eqb (a .number) 0) refl
     where
       go : (t : Bool) → eqb (a .number) 0 ≡ t → outcome a ≡ unless r refusal (outcome done)
-      go true e = ap outcome (done-is a (eqb-true _ _ e)) ∙ is-done r a q refusal (outcome done) (eqb-true _ _ e)
+      go true e = ap outcome (done-is r a q (eqb-true _ _ e)) ∙ is-done r a q refusal (outcome done) (eqb-true _ _ e)
       go false e = k a (eqb-false _ _ e) ∙ is-refused r a q refusal (outcome done) (eqb-false _ _ e)
 
   -- a head stored at a place

@@ -9,7 +9,7 @@ use lib.Dec.{ltb, eqb}
 use borrow.Author.Tests.{lt-ltb, ltb-true, ltb-false, eqb-true, eqb-false}
 use lib.ListN.{getD, set}
 use Rattle.reader_list.specs.Slots.{frontierOf, frontierAt}
-use Rattle.reader_list.specs.Readers.{Head, free, meet, frontier, placeOf, isThere, matched}
+use Rattle.reader_list.specs.Readers.{Head, free, meet, frontier, placeOfId, isThere, matched}
 
 meet-low : (a b : ℕ) → 1 ≤ a → (1 ≤ meet a b) × (meet a b ≤ a)
 meet-low zero b h = absurd (omega arith)
@@ -81,7 +81,7 @@ match-lowers i (h ∷ hs) e = go (eqb (h .id) 0) e (match-lowers i hs)
     on false r = r
 
     go : (t : Bool) → (t || isThere 0 hs) ≡ true → (isThere 0 hs ≡ true → frontier (matched i true hs) ≡ 1)
-        → frontier (set (h ∷ hs) (cond t 0 (suc (placeOf 0 hs))) (record { id = i; reliable = true; acked = 0 })) ≡ 1
+        → frontier (set (h ∷ hs) (cond t 0 (suc (placeOfId 0 hs))) (record { id = i; reliable = true; acked = 0; below = false })) ≡ 1
     go true q r = one (frontier hs)
     go false q r = on (h .reliable) (r q)
 

@@ -6,14 +6,17 @@ use mathlib.Core.Bool.{Bool, true, false, not, cond, _&&_, _||_}
 use mathlib.Core.List.{List, [], _∷_}
 use lib.Dec.{leb, eqb}
 use lib.ListN.{length, getD, set}
+use Rattle.numbers.specs.Capacities.{mostReaders}
 
 pub record Head : Type 0 where
   pub id : ℕ
   pub reliable : Bool
   pub acked : ℕ
+  pub below : Bool
 
+-- a reader's acked is a natural number from its match on; `below` says that a lent slot has one below 0, which counts as 0 but isn't zero
 abbrev pub free : Head
-free = record { id = 0; reliable = false; acked = 0 }
+free = record { id = 0; reliable = false; acked = 0; below = false }
 
 -- THE FRONTIER: a number from 1 on; 0 stands for an absent one
 
@@ -31,9 +34,9 @@ frontier (h ∷ hs) = cond (h .reliable) (meet (max 1 (h .acked)) (frontier hs))
 -- PLACES
 
 -- the first place of an id (of id 0: of a free slot), or the number of slots
-abbrev pub placeOf : ℕ → List Head → ℕ
-placeOf i [] = 0
-placeOf i (h ∷ hs) = cond (eqb (h .id) i) 0 (suc (placeOf i hs))
+abbrev pub placeOfId : ℕ → List Head → ℕ
+placeOfId i [] = 0
+placeOfId i (h ∷ hs) = cond (eqb (h .id) i) 0 (suc (placeOfId i hs))
 
 -- whether a slot has the id
 abbrev pub isThere : ℕ → List Head → Bool
@@ -41,31 +44,31 @@ isThere i [] = false
 isThere i (h ∷ hs) = eqb (h .id) i || isThere i hs
 
 abbrev pub headAt : ℕ → List Head → Head
-headAt i hs = getD hs (placeOf i hs) free
+headAt i hs = getD hs (placeOfId i hs) free
 
 -- THE STEPS: each changes one slot
 
 -- "A match adds a reader with acked 0": in the first free slot
 abbrev pub matched : ℕ → Bool → List Head → List Head
-matched i r hs = set hs (placeOf 0 hs) (record { id = i; reliable = r; acked = 0 })
+matched i r hs = set hs (placeOfId 0 hs) (record { id = i; reliable = r; acked = 0; below = false })
 
 -- "a departure removes it": its slot is free again
 abbrev pub departed : ℕ → List Head → List Head
-departed i hs = set hs (placeOf i hs) free
+departed i hs = set hs (placeOfId i hs) free
 
 -- a reader's acked set
 abbrev pub acknowledged : ℕ → ℕ → List Head → List Head
-acknowledged i a hs = set hs (placeOf i hs) (record { id = i; reliable = headAt i hs .reliable; acked = a })
+acknowledged i a hs = set hs (placeOfId i hs) (record { id = i; reliable = headAt i hs .reliable; acked = a; below = false })
 
 -- COHERENCE
 
 -- a slot is a reader's, with an id from 1 on, or all zeros
-abbrev pub slotFits : Head → Bool
-slotFits h = not (eqb (h .id) 0) || (not (h .reliable) && eqb (h .acked) 0)
+abbrev pub slotCoherent : Head → Bool
+slotCoherent h = not (eqb (h .id) 0) || (not (h .reliable) && (eqb (h .acked) 0 && not (h .below)))
 
-abbrev pub slotsFit : List Head → Bool
-slotsFit [] = true
-slotsFit (h ∷ hs) = slotFits h && slotsFit hs
+abbrev pub slotsCoherent : List Head → Bool
+slotsCoherent [] = true
+slotsCoherent (h ∷ hs) = slotCoherent h && slotsCoherent hs
 
 -- no other slot has the same id, unless it is free
 abbrev pub different : List Head → Bool
@@ -73,5 +76,5 @@ different [] = true
 different (h ∷ hs) = (eqb (h .id) 0 || not (isThere (h .id) hs)) && different hs
 
 -- "ids at least 1, all different", in 1 to 64 slots
-abbrev pub fits : List Head → Bool
-fits hs = leb 1 (length hs) && (leb (length hs) 64 && (slotsFit hs && different hs))
+abbrev pub readersCoherent : List Head → Bool
+readersCoherent hs = leb 1 (length hs) && (leb (length hs) mostReaders && (slotsCoherent hs && different hs))

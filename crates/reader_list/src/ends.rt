@@ -2,8 +2,8 @@
 ghost use mathlib.Core.Path.{_≡_};
 ghost use mathlib.Core.Bool.{cond};
 ghost use Rattle.numbers.specs.Refusals.{answerOf, isDone};
-ghost use Rattle.reader_list.specs.Slots.{listed};
-ghost use Rattle.reader_list.specs.Walk.{isWhole, nowhere, askFront, askFor, askMatch, askAcked, frontEnd, foundEnd, matchEnd, departEnd, ackedEnd};
+ghost use Rattle.reader_list.specs.Slots.{listRows};
+ghost use Rattle.reader_list.specs.Walk.{walkCoherent, nowhere, askFront, askFor, askMatch, askAcked, frontEnd, foundEnd, matchEnd, departEnd, ackedEnd};
 use crate::calls::Acked;
 use crate::calls::Found;
 use crate::calls::Front;
@@ -16,7 +16,6 @@ use crate::walk::begin;
 use crate::walk::free_slot;
 use crate::walk::is_whole;
 use numbers::Answer;
-use numbers::Rows;
 use numbers::SequenceNumber;
 
 // An answer, and the head to store at a place; past the end, nothing is stored.
@@ -27,16 +26,15 @@ pub struct Put {
 }
 
 fn list_answer(s: Seen, limit: bool, range: bool, reader: bool, full: bool) -> Answer
-    ensures { λ r. ⌜ r ≡ answerOf (listed limit (isWhole s) range reader full) ⌝ }
+    ensures { λ r. ⌜ r ≡ answerOf (listRows limit (walkCoherent s) range reader full) ⌝ }
 {
     let coherent = is_whole(s);
-    let mut rows = Rows::none();
-    rows.limit = limit;
-    rows.incoherent = !coherent;
-    rows.range = range;
-    rows.reader = reader;
-    rows.readers_full = full;
-    Answer::of(rows)
+    Answer::done()
+        .unless(full, Answer::READERS_FULL)
+        .unless(reader, Answer::READER)
+        .unless(range, Answer::RANGE)
+        .unless(!coherent, Answer::INCOHERENT)
+        .unless(limit, Answer::LIMIT)
 }
 
 // The head to store at a place, or where the call is refused nowhere.

@@ -3,7 +3,7 @@
 ghost use mathlib.Core.Path.{_≡_};
 ghost use Rattle.reader_list.specs.Readers.{different};
 ghost use Rattle.reader_list.specs.Slots.{readers};
-ghost use Rattle.reader_list.specs.Alone.{aloneFrom, soughtFor, soughtOn, aloneEnd, noneMet, meetSlot, startOf, toldAlone};
+ghost use Rattle.reader_list.specs.Alone.{aloneFrom, soughtFor, soughtOn, aloneEnd, noneMet, meetSlot, lookFrom, toldAlone};
 use crate::heads::ReaderHead;
 
 // An id, and whether a slot has it.
@@ -81,7 +81,7 @@ fn meet_slot(m: Met, h: ReaderHead) -> Met
 
 // Where those after a slot are looked through from: past the end, where none can have its id.
 fn start_of(m: Met, next: usize) -> usize
-    ensures { λ r. ⌜ r ≡ startOf m next ⌝ }
+    ensures { λ r. ⌜ r ≡ lookFrom m next ⌝ }
 {
     if m.again { next } else { 18446744073709551615 }
 }

@@ -11,12 +11,12 @@ use borrow.Author.Tests.{ltb-false}
 use Rattle.sets.specs.Sets.{between}
 use Rattle.sets.proofs.Bools.{and-both}
 use Rattle.sets.proofs.Smallest.{smallest-few}
-use Rattle.numbers.specs.Number.{topNumber, rankOf, inRange, negative}
-use Rattle.numbers.specs.Refusals.{answerOf, done}
+use Rattle.numbers.specs.Capacities.{topNumber}
+use Rattle.numbers.specs.Number.{rankOf, inRange, negative}
+use Rattle.numbers.specs.Refusals.{answerOf, done, Rows}
 use Rattle.numbers.specs.Answers.{earlier, inTurn, answered}
 use Rattle.numbers.specs.Promise.{Left2}
 use Rattle.numbers.specs.declared.answer.Answer.{Answer}
-use Rattle.numbers.specs.declared.answer.Rows.{Rows}
 use Rattle.numbers.specs.declared.sequence_number.SequenceNumber.{SequenceNumber}
 use Rattle.numbers.proofs.Refused.{clear}
 use Rattle.numbers.proofs.Answered.{left-done, turn-done}
@@ -29,8 +29,8 @@ use Rattle.rising.proofs.Changes.{only-le}
 use Rattle.rtps_reader_proxy.specs.declared.proxy.ReaderProxy.{ReaderProxy}
 use Rattle.rtps_reader_proxy.specs.declared.acks.AckNacked.{AckNacked}
 use Rattle.rtps_reader_proxy.specs.Reader.{Reader, baseOf, isLate, ackedAfter, staying, wanted, acknowledge, leftOut}
-use Rattle.rtps_reader_proxy.specs.Record.{unsentOk, gapsOk}
-use Rattle.rtps_reader_proxy.specs.Acks.{ackRowsOf, ackRows, ackFits, ackLeaves, ackNackedOf, ackNackedAmong, headAfter}
+use Rattle.rtps_reader_proxy.specs.Record.{unsentCoherent, gapsCoherent}
+use Rattle.rtps_reader_proxy.specs.Acks.{ackRowsOf, ackRows, ackFits, ackLeaves, ackNackedOf, ackNackedAmong, proxyAfter}
 use Rattle.rtps_reader_proxy.proofs.Parts.{union-le}
 use Rattle.reader_record.specs.InPart.{AsWholes}
 use Rattle.reader_record.proofs.InPart.{all-fit, fits-few, same2, as-wholes}
@@ -44,7 +44,7 @@ ackWith F set last h unsent gaps =
     (λ a. record { result = record { answer = a; «left_out» = 0; proxy = h }; first = unsent; second = gaps })
     (ackLeaves set (rankOf last) h unsent gaps)
 
-module _ (h : ReaderProxy) (room gaps : List ℕ) (ok : unsentOk h room ≡ true) (gok : gapsOk h gaps ≡ true) (whole : length room ≡ h .«unsent_cap») (gwhole : length gaps ≡ 256)
+module _ (h : ReaderProxy) (room gaps : List ℕ) (ok : unsentCoherent h room ≡ true) (gok : gapsCoherent h gaps ≡ true) (whole : length room ≡ h .«unsent_cap») (gwhole : length gaps ≡ 256)
     (k j : ℕ) (lo : h .«unsent_count» ≤ k) (hi : k ≤ h .«unsent_cap») (glo : h .«gap_count» ≤ j) (ghi : j ≤ 256) (set : SequenceNumberSet) (last : SequenceNumber)
     (fits : ackFits h (take k room) set ≡ true)
     (F : Answer → Answer) (own : (r : Rows) → F (answerOf r) .number ≡ 0 → answerOf r .number ≡ 0) where
@@ -83,24 +83,24 @@ module _ (h : ReaderProxy) (room gaps : List ℕ) (ok : unsentOk h room ≡ true
       answered (F (answerOf (ackRowsOf t (sequenceSet set) (negative (set .base) || not (inRange last topNumber)) false L)))
       (λ a. record { result = record { answer = a; «left_out» = 0; proxy = h }; first = v; second = w })
       (record {
-        result = record { answer = done; «left_out» = leftOut L B ms (withBoth vs ws); proxy = headAfter (acknowledge L B ms (withBoth vs ws)) h };
+        result = record { answer = done; «left_out» = leftOut L B ms (withBoth vs ws); proxy = proxyAfter (acknowledge L B ms (withBoth vs ws)) h };
         first = roomOf (length v) (acknowledge L B ms (withBoth vs ws) .unsent);
         second = roomOf (length w) (acknowledge L B ms (withBoth vs ws) .gaps);
       })
 
   ack-by-part : ackWith F set last h (take k room) (take j gaps) ≡ acks true (take k room) (take j gaps) u g
   ack-by-part =
-      let t = ackFits h (take k room) set && (unsentOk h (take k room) && gapsOk h (take j gaps)) in
+      let t = ackFits h (take k room) set && (unsentCoherent h (take k room) && gapsCoherent h (take j gaps)) in
       ap (λ (v : List ℕ). acks t (take k room) (take j gaps) v (take (h .«gap_count») (take j gaps))) (unsent-held h room ok whole k lo hi)
       ∙ ap (λ (w : List ℕ). acks t (take k room) (take j gaps) u w) (gaps-held h gaps gok gwhole j glo ghi)
       ∙ ap (λ (b : Bool). acks b (take k room) (take j gaps) u g)
-      (and-both (ackFits h (take k room) set) (unsentOk h (take k room) && gapsOk h (take j gaps)) fits
-      (and-both (unsentOk h (take k room)) (gapsOk h (take j gaps)) (unsent-part-ok h room ok whole k lo hi) (gaps-part-ok h gaps gok gwhole j glo ghi)))
+      (and-both (ackFits h (take k room) set) (unsentCoherent h (take k room) && gapsCoherent h (take j gaps)) fits
+      (and-both (unsentCoherent h (take k room)) (gapsCoherent h (take j gaps)) (unsent-part-ok h room ok whole k lo hi) (gaps-part-ok h gaps gok gwhole j glo ghi)))
 
   ack-by-whole : ackWith F set last h room gaps ≡ acks true room gaps u g
   ack-by-whole =
       ap (λ (b : Bool). acks b room gaps u g)
-      (and-both (ackFits h room set) (unsentOk h room && gapsOk h gaps) (all-fit (min (set .count) 256) (h .«unsent_cap») (h .«unsent_count») room whole) (and-both (unsentOk h room) (gapsOk h gaps) ok gok))
+      (and-both (ackFits h room set) (unsentCoherent h room && gapsCoherent h gaps) (all-fit (min (set .count) 256) (h .«unsent_cap») (h .«unsent_count») room whole) (and-both (unsentCoherent h room) (gapsCoherent h gaps) ok gok))
 
   unsent-few : set .count ≤ 256 → length (y .unsent) ≤ k
   unsent-few bits =
@@ -128,17 +128,17 @@ module _ (h : ReaderProxy) (room gaps : List ℕ) (ok : unsentOk h room ≡ true
   with-in-part =
       as-wholes (drop k room) (drop j gaps) (ackWith F set last h (take k room) (take j gaps)) (acks true (take k room) (take j gaps) u g) (ackWith F set last h room gaps) (acks true room gaps u g)
       ack-by-part ack-by-whole
-      (same2 (F (answerOf rows)) (λ (a : Answer). record { answer = a; «left_out» = 0; proxy = h }) (record { answer = done; «left_out» = leftOut L B ms (withBoth u g); proxy = headAfter y h })
+      (same2 (F (answerOf rows)) (λ (a : Answer). record { answer = a; «left_out» = 0; proxy = h }) (record { answer = done; «left_out» = leftOut L B ms (withBoth u g); proxy = proxyAfter y h })
       (drop k room) (take k room) (roomOf (length (take k room)) (y .unsent)) room (roomOf (length room) (y .unsent))
       (drop j gaps) (take j gaps) (roomOf (length (take j gaps)) (y .gaps)) gaps (roomOf (length gaps) (y .gaps))
       (take-append-drop k room) (take-append-drop j gaps)
       (λ z. (
-        unsent-glue h room ok whole k lo hi (y .unsent) (unsent-few (ltb-false 256 (set .count) (clear rows (answerOf rows) refl (own rows z) .bits))),
+        unsent-glue h room ok whole k lo hi (y .unsent) (unsent-few (ltb-false 256 (set .count) (clear rows (answerOf rows) refl (own rows z) 3 refl))),
         gaps-glue h gaps gok gwhole j glo ghi (y .gaps) (omega (arith, only-le (leb (ackedAfter (rankOf (h .«all_acked_before»)) B)) g, g-long)),
       )))
 
 -- by itself, and among the calls of a step
-module _ (h : ReaderProxy) (room gaps : List ℕ) (ok : unsentOk h room ≡ true) (gok : gapsOk h gaps ≡ true) (whole : length room ≡ h .«unsent_cap») (gwhole : length gaps ≡ 256)
+module _ (h : ReaderProxy) (room gaps : List ℕ) (ok : unsentCoherent h room ≡ true) (gok : gapsCoherent h gaps ≡ true) (whole : length room ≡ h .«unsent_cap») (gwhole : length gaps ≡ 256)
     (k j : ℕ) (lo : h .«unsent_count» ≤ k) (hi : k ≤ h .«unsent_cap») (glo : h .«gap_count» ≤ j) (ghi : j ≤ 256) (set : SequenceNumberSet) (last : SequenceNumber)
     (fits : ackFits h (take k room) set ≡ true) where
   pub ack-nack-in-part : AsWholes (drop k room) (drop j gaps) (ackNackedOf set last h (take k room) (take j gaps)) (ackNackedOf set last h room gaps)
@@ -147,4 +147,4 @@ module _ (h : ReaderProxy) (room gaps : List ℕ) (ok : unsentOk h room ≡ true
   pub ack-nack-among-in-part : (beside after : Answer) → AsWholes (drop k room) (drop j gaps) (ackNackedAmong beside after set last h (take k room) (take j gaps)) (ackNackedAmong beside after set last h room gaps)
   ack-nack-among-in-part beside after =
       with-in-part h room gaps ok gok whole gwhole k j lo hi glo ghi set last fits (λ a. inTurn (earlier a beside) after)
-      (λ r z. left-done (answerOf r) beside r refl (turn-done (earlier (answerOf r) beside) after z .0))
+      (λ r z. left-done (answerOf r) beside (turn-done (earlier (answerOf r) beside) after z .0))

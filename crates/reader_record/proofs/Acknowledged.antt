@@ -16,7 +16,8 @@ use Rattle.sets.proofs.Smallest.{From-take}
 use Rattle.sets.proofs.Append.{only-same}
 use Rattle.rising.proofs.Meaning.{rises-are}
 use Rattle.rising.proofs.Changes.{only-le, insert-same}
-use Rattle.numbers.specs.Number.{topNumber, rankOf}
+use Rattle.numbers.specs.Capacities.{topNumber}
+use Rattle.numbers.specs.Number.{rankOf}
 use Rattle.numbers.specs.Refusals.{answerOf, isDone}
 use Rattle.numbers.specs.Promise.{Left2, Gives2}
 use Rattle.numbers.specs.declared.answer.Answer.{Answer}
@@ -30,7 +31,7 @@ use Rattle.rtps_reader_proxy.specs.declared.acks.AckNacked.{AckNacked}
 use Rattle.rtps_reader_proxy.specs.Reader.{Reader, baseOf, isAhead, isLate, ackedAfter, staying, wanted, acknowledge, leftOut}
 use Rattle.rtps_reader_proxy.specs.Acks.{ackRows, ackNackedOf, ackLeaves}
 use Rattle.rtps_reader_proxy.proofs.AckCalls.{ackable}
-use Rattle.reader_record.specs.Whole.{Picture, isCoherent, view, Valid}
+use Rattle.reader_record.specs.Whole.{Picture, recordCoherent, recordView, Valid}
 use Rattle.reader_record.specs.Acknowledged.{stays, joins, howMany, smaller, Acknowledged}
 use Rattle.reader_record.proofs.Whole.{view-valid}
 use Rattle.reader_record.proofs.Kept.{acknowledged-valid}
@@ -240,30 +241,30 @@ module _ (last b : ℕ) (ms : List ℕ) (r p q : Reader) (i j : ℕ) (x : Acknow
   )
 
 -- THE CALL: a coherent record's reader, and the one of what `handle_ack_nack` leaves where it answers 0
-module _ (p : Picture) (c : isCoherent p ≡ true) (w : Words (p .words)) (set : SequenceNumberSet) (last : SequenceNumber) where
+module _ (p : Picture) (c : recordCoherent p ≡ true) (w : Words (p .words)) (set : SequenceNumberSet) (last : SequenceNumber) where
   abbrev answer : Answer
-  answer = answerOf (ackRows (p .head) (p .unsent) (p .gaps) set last)
+  answer = answerOf (ackRows (p .proxy) (p .unsent) (p .gaps) set last)
 
   abbrev refused : Left2 AckNacked (List ℕ) (List ℕ)
-  refused = record { result = record { answer = answer; «left_out» = 0; proxy = p .head }; first = p .unsent; second = p .gaps }
+  refused = record { result = record { answer = answer; «left_out» = 0; proxy = p .proxy }; first = p .unsent; second = p .gaps }
 
   abbrev taken : Left2 AckNacked (List ℕ) (List ℕ)
-  taken = ackLeaves set (rankOf last) (p .head) (p .unsent) (p .gaps)
+  taken = ackLeaves set (rankOf last) (p .proxy) (p .unsent) (p .gaps)
 
   was-taken : (t : Bool) → isDone answer ≡ t → cond t taken refused .result .answer .number ≡ 0 → (cond t taken refused ≡ taken) × (answer .number ≡ 0)
   was-taken true e z = (refl, eqb-true (answer .number) 0 e)
   was-taken false e z = clash (isDone answer) (eq-eqb (answer .number) 0 z) e
 
-  pub ack-nack-acknowledges : (o : AckNacked) (u g : List ℕ) → Gives2 o u g (ackNackedOf set last (p .head) (p .unsent) (p .gaps)) → o .answer .number ≡ 0
-      → Acknowledged (rankOf last) (rankOf (set .base)) (members (sequenceSet set)) (view p) (view (record { head = o .proxy; unsent = u; gaps = g; samples = p .samples; words = p .words })) (o .«left_out»)
+  pub ack-nack-acknowledges : (o : AckNacked) (u g : List ℕ) → Gives2 o u g (ackNackedOf set last (p .proxy) (p .unsent) (p .gaps)) → o .answer .number ≡ 0
+      → Acknowledged (rankOf last) (rankOf (set .base)) (members (sequenceSet set)) (recordView p) (recordView (record { proxy = o .proxy; unsent = u; gaps = g; samples = p .samples; words = p .words })) (o .«left_out»)
   ack-nack-acknowledges o u g gives z =
       let b = rankOf (set .base) in
       let ms = members (sequenceSet set) in
-      let after : Picture = record { head = o .proxy; unsent = u; gaps = g; samples = p .samples; words = p .words } in
+      let after : Picture = record { proxy = o .proxy; unsent = u; gaps = g; samples = p .samples; words = p .words } in
       let d = was-taken (isDone answer) refl (ap (λ (x : AckNacked). x .answer .number) (sym (gives .result)) ∙ z) in
-      let k = ackable set last (p .head) (p .unsent) (p .gaps) answer refl (d .1) (rankOf last) refl in
-      let is : view after ≡ acknowledge (rankOf last) b ms (view p) = stands-view after (acknowledge (rankOf last) b ms (view p)) (ack-nack-does p c w set last o u g gives z) in
-      let count : o .«left_out» ≡ leftOut (rankOf last) b ms (view p) = ap (λ (x : AckNacked). x .«left_out») (gives .result ∙ ap (λ (x : Left2 AckNacked (List ℕ) (List ℕ)). x .result) (d .0)) in
-      subst (λ (q : Reader). Acknowledged (rankOf last) b ms (view p) q (o .«left_out»)) (sym is)
-      (subst (Acknowledged (rankOf last) b ms (view p) (acknowledge (rankOf last) b ms (view p))) (sym count)
-      (acknowledged set (rankOf last) (view p) (view-valid p c) (k .top) (k .behind)))
+      let k = ackable set last (p .proxy) (p .unsent) (p .gaps) answer refl (d .1) (rankOf last) refl in
+      let is : recordView after ≡ acknowledge (rankOf last) b ms (recordView p) = stands-view after (acknowledge (rankOf last) b ms (recordView p)) (ack-nack-does p c w set last o u g gives z) in
+      let count : o .«left_out» ≡ leftOut (rankOf last) b ms (recordView p) = ap (λ (x : AckNacked). x .«left_out») (gives .result ∙ ap (λ (x : Left2 AckNacked (List ℕ) (List ℕ)). x .result) (d .0)) in
+      subst (λ (q : Reader). Acknowledged (rankOf last) b ms (recordView p) q (o .«left_out»)) (sym is)
+      (subst (Acknowledged (rankOf last) b ms (recordView p) (acknowledge (rankOf last) b ms (recordView p))) (sym count)
+      (acknowledged set (rankOf last) (recordView p) (view-valid p c) (k .top) (k .behind)))

@@ -1,4 +1,4 @@
--- From any record whose head and fragment rooms pass the check, the reader's own calls offer every requested fragment, once, and leave none requested.
+-- From any record whose proxy and fragment rooms pass the check, the reader's own calls offer every requested fragment, once, and leave none requested.
 -- Assumes nothing.
 use Prim.Native.Nat.{ℕ, zero, suc, _+_, _-_, _*_, _≤_, _<_}
 use mathlib.Core.Path.{_≡_, refl, sym, ap, subst, _∙_}
@@ -11,9 +11,10 @@ use borrow.Author.Tests.{leb-true, le-leb, lt-ltb, eq-eqb}
 use Rattle.sets.specs.Sets.{has, empty, only, firstOr}
 use Rattle.sets.proofs.Bools.{and-left, and-right, and-both}
 use Rattle.sets.proofs.Has.{has-only}
-use Rattle.numbers.specs.Number.{topNumber, topFragment, rankOf, inRange, numberAt, fragmentAt}
-use Rattle.numbers.specs.Refusals.{row, rowsOf, done, unless}
-use Rattle.numbers.specs.Cursor.{cursorAt, cursorPast}
+use Rattle.numbers.specs.Capacities.{topNumber, topFragment}
+use Rattle.numbers.specs.Number.{rankOf, inRange, numberAt, fragmentAt}
+use Rattle.numbers.specs.Refusals.{row, done, unless}
+use Rattle.numbers.specs.Cursor.{fragmentCursorAt, fragmentCursorPast}
 use Rattle.numbers.specs.Promise.{Left2}
 use Rattle.numbers.specs.declared.answer.Answer.{Answer}
 use Rattle.numbers.specs.declared.sequence_number.SequenceNumber.{SequenceNumber}
@@ -21,8 +22,8 @@ use Rattle.numbers.specs.declared.fragment_number.FragmentNumber.{FragmentNumbe
 use Rattle.numbers.proofs.Ranks.{rank-back}
 use Rattle.rising.proofs.Meaning.{rises-are}
 use Rattle.requested_fragments.specs.Entries.{Entry, samplesOf, sent, nextSample, nextFragment, some}
-use Rattle.requested_fragments.specs.Table.{coherentRooms, entriesOf, samplesRoom, wordsRoom, markedIn}
-use Rattle.requested_fragments.specs.Drain.{Piece, allAsked, Run, offering, turns, times}
+use Rattle.requested_fragments.specs.Table.{fragRoomsCoherent, entriesOf, samplesRoom, wordsRoom, markedIn}
+use Rattle.requested_fragments.specs.Drain.{Piece, allAsked, DrainRun, offering, turns, times}
 use Rattle.requested_fragments.proofs.Drained.{drained, once}
 use Rattle.requested_fragments.proofs.Whole.{coherent-sound}
 use Rattle.requested_fragments.proofs.Coherent.{is-coherent}
@@ -33,11 +34,11 @@ use Rattle.rtps_reader_proxy.specs.declared.proxy.Changed.{Changed}
 use Rattle.rtps_reader_proxy.specs.declared.fragments.NextFragRequested.{NextFragRequested}
 use Rattle.rtps_reader_proxy.specs.declared.fragments.Told.{Told}
 use Rattle.rtps_reader_proxy.specs.Reader.{Reader, fragsRequested}
-use Rattle.rtps_reader_proxy.specs.Record.{headOk}
-use Rattle.rtps_reader_proxy.specs.Fragments.{fragsOk, countFrags, entriesIn, fragSentOf, nextFragOf}
-use Rattle.reader_record.specs.Play.{Played, ended, offers, onward, turn, play}
+use Rattle.rtps_reader_proxy.specs.Record.{proxyCoherent}
+use Rattle.rtps_reader_proxy.specs.Fragments.{fragsCoherent, countFrags, entriesIn, fragSentOf, nextFragOf}
+use Rattle.reader_record.specs.Play.{Played, playEnded, offers, onward, turn, play}
 use Rattle.reader_record.specs.AllSent.{Drains}
-use Rattle.reader_record.proofs.Whole.{HeadIs, head-is}
+use Rattle.reader_record.proofs.Whole.{ProxyIs, proxy-is}
 
 -- what is offered is a sample number and a fragment number, which the answer can hold
 small : (es : List Entry) → EntriesValid es → (nextSample es ≤ topNumber) × (nextFragment 1 es ≤ topFragment)
@@ -51,25 +52,25 @@ small (e ∷ es) v = (
     first [] q = omega arith
     first (x ∷ xs) q = q x (ap (λ (t : Bool). t || has xs x) (eq-eqb x x refl))
 
-module _ (h : ReaderProxy) (S W : List ℕ) (ok : fragsOk h S W ≡ true) where
+module _ (h : ReaderProxy) (S W : List ℕ) (ok : fragsCoherent h S W ≡ true) where
   abbrev E : List Entry
   E = entriesIn h S W
 
-  rooms : coherentRooms (h .«frag_count») S W ≡ true
-  rooms = and-right (headOk h) (coherentRooms (h .«frag_count») S W) ok
+  rooms : fragRoomsCoherent (h .«frag_count») S W ≡ true
+  rooms = and-right (proxyCoherent h) (fragRoomsCoherent (h .«frag_count») S W) ok
 
   -- the question's answer, by whether there is a next
   abbrev no-next : Answer → NextFragRequested
-  no-next a = record { answer = a; sample = numberAt 0; fragment = fragmentAt 0; cursor = cursorAt 0 }
+  no-next a = record { answer = a; sample = numberAt 0; fragment = fragmentAt 0; cursor = fragmentCursorAt 0 }
 
   abbrev this-next : NextFragRequested
-  this-next = record { answer = done; sample = numberAt (nextSample (entriesIn h S W)); fragment = fragmentAt (nextFragment 1 (entriesIn h S W)); cursor = cursorPast (nextFragment 1 (entriesIn h S W)) }
+  this-next = record { answer = done; sample = numberAt (nextSample (entriesIn h S W)); fragment = fragmentAt (nextFragment 1 (entriesIn h S W)); cursor = fragmentCursorPast (nextFragment 1 (entriesIn h S W)) }
 
   abbrev next-by : Bool → NextFragRequested
-  next-by t = unless (rowsOf (row 1 false ∷ row 14 t ∷ [])) no-next this-next
+  next-by t = unless (row 1 refl false ∷ row 14 refl t ∷ []) no-next this-next
 
-  next-is : nextFragOf (cursorAt 1) h S W ≡ next-by (eqb (nextFragment 1 (entriesIn h S W)) 0)
-  next-is = ap (λ (b : Bool). unless (rowsOf (row 1 (not b) ∷ row 14 (eqb (nextFragment 1 (entriesIn h S W)) 0) ∷ [])) no-next this-next) ok
+  next-is : nextFragOf (fragmentCursorAt 1) h S W ≡ next-by (eqb (nextFragment 1 (entriesIn h S W)) 0)
+  next-is = ap (λ (b : Bool). unless (row 1 refl (not b) ∷ row 14 refl (eqb (nextFragment 1 (entriesIn h S W)) 0) ∷ []) no-next this-next) ok
 
   -- the mark's outcome
   abbrev left : ℕ → ℕ → List Entry
@@ -80,7 +81,7 @@ module _ (h : ReaderProxy) (S W : List ℕ) (ok : fragsOk h S W ≡ true) where
 
   marks-is : (n : SequenceNumber) (f : FragmentNumber) → fragSentOf n f h S W ≡ marks (rankOf n) (f .0)
   marks-is n f =
-      ap (λ (b : Bool). unless (rowsOf (row 1 (not b) ∷ [])) (λ a. record { result = record { answer = a; proxy = h }; first = S; second = W }) (marks (rankOf n) (f .0))) ok
+      ap (λ (b : Bool). unless (row 1 refl (not b) ∷ []) (λ a. record { result = record { answer = a; proxy = h }; first = S; second = W }) (marks (rankOf n) (f .0))) ok
 
   left-valid : (n f : ℕ) → EntriesValid (left n f)
   left-valid n f =
@@ -91,20 +92,20 @@ module _ (h : ReaderProxy) (S W : List ℕ) (ok : fragsOk h S W ≡ true) where
   left-few n f = omega (arith, sent-few n f (entriesIn h S W), entries-few (h .«frag_count») S W rooms)
 
   -- the record after it passes the check, and holds what is left
-  left-ok : (n f : ℕ) → fragsOk (countFrags (length (left n f)) h) (samplesRoom (length S) (left n f)) (wordsRoom (length S) (left n f)) ≡ true
+  left-ok : (n f : ℕ) → fragsCoherent (countFrags (length (left n f)) h) (samplesRoom (length S) (left n f)) (wordsRoom (length S) (left n f)) ≡ true
   left-ok n f =
-      let k = head-is h (and-left (headOk h) (coherentRooms (h .«frag_count») S W) ok) in
-      and-both (headOk (countFrags (length (left n f)) h)) (coherentRooms (length (left n f)) (samplesRoom (length S) (left n f)) (wordsRoom (length S) (left n f)))
+      let k = proxy-is h (and-left (proxyCoherent h) (fragRoomsCoherent (h .«frag_count») S W) ok) in
+      and-both (proxyCoherent (countFrags (length (left n f)) h)) (fragRoomsCoherent (length (left n f)) (samplesRoom (length S) (left n f)) (wordsRoom (length S) (left n f)))
       (rw (k .acked, le-leb 1 (h .«unsent_cap») (k .cap-low), le-leb (h .«unsent_cap») 1024 (k .cap-high), le-leb (h .«unsent_count») (h .«unsent_cap») (k .unsent), k .prefix, le-leb (h .«gap_count») 256 (k .gaps), le-leb (length (left n f)) 16 (left-valid n f .small)))
       (rooms-pass (length S) (left n f) (left-valid n f) (left-few n f) (is-coherent (h .«frag_count») S W rooms .lengthS))
 
 -- what the calls did is what the turns did
-pub record Alike (p : Played) (r : Run) : Type 0 where
+pub record Alike (p : Played) (r : DrainRun) : Type 0 where
   pub offered : p .offered ≡ r .offered
-  pub passes : fragsOk (p .head) (p .samples) (p .words) ≡ true
-  pub left : entriesIn (p .head) (p .samples) (p .words) ≡ r .left
+  pub passes : fragsCoherent (p .proxy) (p .samples) (p .words) ≡ true
+  pub left : entriesIn (p .proxy) (p .samples) (p .words) ≡ r .left
 
-pub alike : (k : ℕ) (h : ReaderProxy) (S W : List ℕ) → fragsOk h S W ≡ true → Alike (play k h S W) (turns k (entriesIn h S W))
+pub alike : (k : ℕ) (h : ReaderProxy) (S W : List ℕ) → fragsCoherent h S W ≡ true → Alike (play k h S W) (turns k (entriesIn h S W))
 alike zero h S W ok = record { offered = refl; passes = ok; left = refl }
 alike (suc k) h S W ok =
     subst (λ (o : NextFragRequested). Alike (turn (play k) h S W o) (turns (suc k) (entriesIn h S W))) (sym (next-is h S W ok))
@@ -116,7 +117,7 @@ alike (suc k) h S W ok =
     f : ℕ
     f = nextFragment 1 (entriesIn h S W)
 
-    go : (t : Bool) → ((x : ReaderProxy) (y z : List ℕ) → fragsOk x y z ≡ true → Alike (play k x y z) (turns k (entriesIn x y z)))
+    go : (t : Bool) → ((x : ReaderProxy) (y z : List ℕ) → fragsCoherent x y z ≡ true → Alike (play k x y z) (turns k (entriesIn x y z)))
         → Alike (turn (play k) h S W (next-by h S W ok t))
         (cond t (record { offered = []; left = entriesIn h S W })
         (offering (record { sample = nextSample (entriesIn h S W); frag = nextFragment 1 (entriesIn h S W) }) (turns k (sent (nextSample (entriesIn h S W)) (nextFragment 1 (entriesIn h S W)) (entriesIn h S W)))))
@@ -140,17 +141,17 @@ alike (suc k) h S W ok =
         }
 
 -- THE THEOREM, of the reader's calls
-pub all-sent : (k : ℕ) (h : ReaderProxy) (S W : List ℕ) → fragsOk h S W ≡ true → length (allAsked (entriesIn h S W)) ≤ k → Drains h S W (play k h S W)
+pub all-sent : (k : ℕ) (h : ReaderProxy) (S W : List ℕ) → fragsCoherent h S W ≡ true → length (allAsked (entriesIn h S W)) ≤ k → Drains h S W (play k h S W)
 all-sent k h S W ok q =
     let a = alike k h S W ok in
     let s = coherent-sound (h .«frag_count») S W (rooms h S W ok) in
     let d = drained k 1 (entriesIn h S W) s q in
-    let e : some (entriesIn (play k h S W .head) (play k h S W .samples) (play k h S W .words)) ≡ false = ap some (a .left ∙ ap (λ (r : Run). r .left) d) in
+    let e : some (entriesIn (play k h S W .proxy) (play k h S W .samples) (play k h S W .words)) ≡ false = ap some (a .left ∙ ap (λ (r : DrainRun). r .left) d) in
     record {
-      offered = λ n f. ap (times n f) (a .offered ∙ ap (λ (r : Run). r .offered) d) ∙ once 1 n f (entriesIn h S W) s;
+      offered = λ n f. ap (times n f) (a .offered ∙ ap (λ (r : DrainRun). r .offered) d) ∙ once 1 n f (entriesIn h S W) s;
       passes = a .passes;
       none =
-          ap (λ (b : Bool). unless (rowsOf (row 1 (not b) ∷ [])) (λ x. record { answer = x; yes = false }) (record { answer = done; yes = some (entriesIn (play k h S W .head) (play k h S W .samples) (play k h S W .words)) })) (a .passes)
+          ap (λ (b : Bool). unless (row 1 refl (not b) ∷ []) (λ x. record { answer = x; yes = false }) (record { answer = done; yes = some (entriesIn (play k h S W .proxy) (play k h S W .samples) (play k h S W .words)) })) (a .passes)
           ∙ ap (λ (b : Bool). record { answer = done; yes = b }) e;
     }
 

@@ -12,8 +12,8 @@ use Rattle.sets.specs.Sets.{has, From, union, without, only, empty, firstOr}
 use Rattle.sets.proofs.Bools.{and-left, and-right, and-both, and-no, or-false, or-swap, or-assoc, or-right, decide, clash}
 use Rattle.sets.proofs.Has.{has-union, has-only, has-without, From-only, From-low}
 use Rattle.sets.proofs.First.{first-cases}
-use Rattle.requested_fragments.specs.Entries.{Entry, entry, keep, asked, requested, sent, nextSample, nextFragment}
-use Rattle.requested_fragments.specs.Drain.{Sound, isAsked}
+use Rattle.requested_fragments.specs.Entries.{Entry, entry, keep, requestedSome, requested, sent, nextSample, nextFragment}
+use Rattle.requested_fragments.specs.Drain.{EntriesCoherent, isAsked}
 
 module _ (s f : ℕ) where
   -- A REQUEST adds the pieces that it names, of its sample, and no other; one for nothing adds nothing
@@ -21,12 +21,12 @@ module _ (s f : ℕ) where
   spread true a b c = or-assoc a b c
   spread false a b c = refl
 
-  named : (n : ℕ) (ms : List ℕ) (es : List Entry) → isAsked s f (asked n ms es) ≡ ((eqb n s && has ms f) || isAsked s f es)
+  named : (n : ℕ) (ms : List ℕ) (es : List Entry) → isAsked s f (requestedSome n ms es) ≡ ((eqb n s && has ms f) || isAsked s f es)
   named n ms [] = refl
   named n ms (e ∷ es) = go (eqb (e .sample) n) refl (leb n (e .sample)) (named n ms es)
     where
-      go : (t : Bool) → eqb (e .sample) n ≡ t → (u : Bool) → isAsked s f (asked n ms es) ≡ ((eqb n s && has ms f) || isAsked s f es)
-          → isAsked s f (cond t (entry (e .sample) (union ms (e .frags)) ∷ es) (cond u (entry n ms ∷ e ∷ es) (e ∷ asked n ms es)))
+      go : (t : Bool) → eqb (e .sample) n ≡ t → (u : Bool) → isAsked s f (requestedSome n ms es) ≡ ((eqb n s && has ms f) || isAsked s f es)
+          → isAsked s f (cond t (entry (e .sample) (union ms (e .frags)) ∷ es) (cond u (entry n ms ∷ e ∷ es) (e ∷ requestedSome n ms es)))
           ≡ ((eqb n s && has ms f) || ((eqb (e .sample) s && has (e .frags) f) || isAsked s f es))
       go true d u r =
           ap (λ (t : Bool). (eqb (e .sample) s && t) || isAsked s f es) (has-union ms (e .frags) f)
@@ -42,7 +42,7 @@ module _ (s f : ℕ) where
   asked-more n (m ∷ ms) es = named n (m ∷ ms) es
 
   -- A PIECE MARKED SENT is no longer asked for, and all others are as before
-  none-before : (b : ℕ) (es : List Entry) → Sound b es → s < b → isAsked s f es ≡ false
+  none-before : (b : ℕ) (es : List Entry) → EntriesCoherent b es → s < b → isAsked s f es ≡ false
   none-before b [] h q = refl
   none-before b (e ∷ es) h q =
       rw (ne-eqb (e .sample) s (λ (z : e .sample ≡ s). omega (arith, z, h .0))) (none-before (suc (e .sample)) es (h .1 .1 .1) (omega (arith, h .0)))
@@ -51,7 +51,7 @@ module _ (s f : ℕ) where
   kept k [] es = sym (ap (λ (t : Bool). t || isAsked s f es) (and-no (eqb k s)))
   kept k (x ∷ xs) es = refl
 
-  pub asked-less : (b n g : ℕ) (es : List Entry) → Sound b es → isAsked s f (sent n g es) ≡ (not (eqb n s && eqb g f) && isAsked s f es)
+  pub asked-less : (b n g : ℕ) (es : List Entry) → EntriesCoherent b es → isAsked s f (sent n g es) ≡ (not (eqb n s && eqb g f) && isAsked s f es)
   asked-less b n g [] h = sym (and-no (not (eqb n s && eqb g f)))
   asked-less b n g (e ∷ es) h = go (eqb (e .sample) n) refl (asked-less (suc (e .sample)) n g es (h .1 .1 .1))
     where
@@ -82,7 +82,7 @@ module _ (s f : ℕ) where
           ∙ past (eqb n s) (eqb g f) (eqb (e .sample) s && has (e .frags) f) (other d) (isAsked s f es)
 
 -- THE NEXT PIECE from c on: of the smallest sample of which anything is asked, the smallest piece from c on; 0 where it has none
-pub smallest-sample : (b : ℕ) (es : List Entry) → Sound b es → (n g : ℕ) → isAsked n g es ≡ true → nextSample es ≤ n
+pub smallest-sample : (b : ℕ) (es : List Entry) → EntriesCoherent b es → (n g : ℕ) → isAsked n g es ≡ true → nextSample es ≤ n
 smallest-sample b [] h n g e = absurd (false≢true e)
 smallest-sample b (e ∷ es) h n g q = case (decide (leb (e .sample) n))
   where
@@ -91,7 +91,7 @@ smallest-sample b (e ∷ es) h n g q = case (decide (leb (e .sample) n))
     case (inr w) = clash (isAsked n g (e ∷ es)) q (none-before n g (e .sample) (e ∷ es) (omega arith, h .1) (leb-false (e .sample) n w))
 
 -- of the first sample, what is asked for is what its entry holds
-own : (b : ℕ) (e : Entry) (es : List Entry) → Sound b (e ∷ es) → (g : ℕ) → isAsked (e .sample) g (e ∷ es) ≡ has (e .frags) g
+own : (b : ℕ) (e : Entry) (es : List Entry) → EntriesCoherent b (e ∷ es) → (g : ℕ) → isAsked (e .sample) g (e ∷ es) ≡ has (e .frags) g
 own b e es h g =
     rw (eq-eqb (e .sample) (e .sample) refl, none-before (e .sample) g (suc (e .sample)) es (h .1 .1 .1) (omega arith)) (no (has (e .frags) g))
   where
@@ -99,7 +99,7 @@ own b e es h g =
     no true = refl
     no false = refl
 
-pub smallest-piece : (c b : ℕ) (es : List Entry) → Sound b es
+pub smallest-piece : (c b : ℕ) (es : List Entry) → EntriesCoherent b es
     → ((nextFragment c es ≡ 0) × ((m : ℕ) → c ≤ m → isAsked (nextSample es) m es ≡ false))
     ⊎ ((c ≤ nextFragment c es) × ((isAsked (nextSample es) (nextFragment c es) es ≡ true) × ((m : ℕ) → c ≤ m → isAsked (nextSample es) m es ≡ true → nextFragment c es ≤ m)))
 smallest-piece c b [] h = inl (refl, λ m q. refl)

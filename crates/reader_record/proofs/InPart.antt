@@ -12,12 +12,11 @@ use lib.ListN.{length, take, drop, replicate, replicate-append-replicate}
 use lib.Seq.{length-take-le, take-at, drop-at, take-take}
 use borrow.Author.Tests.{le-leb, eqb-true}
 use Rattle.sets.proofs.Bools.{or-right}
-use Rattle.numbers.specs.Refusals.{answerOf, isDone, unless}
+use Rattle.numbers.specs.Refusals.{answerOf, isDone, unless, Rows}
 use Rattle.numbers.specs.Answers.{answered}
 use Rattle.numbers.specs.Promise.{Left1, Left2}
 use Rattle.numbers.specs.declared.answer.Answer.{Answer}
-use Rattle.numbers.specs.declared.answer.Rows.{Rows}
-use Rattle.rising.specs.Runs.{runOk, roomOf}
+use Rattle.rising.specs.Runs.{runCoherent, roomOf}
 use Rattle.rising.proofs.Meaning.{RunIs, room-is, room-ok, room-length}
 use Rattle.rtps_reader_proxy.specs.Record.{roomFor}
 use Rattle.rtps_reader_proxy.proofs.Parts.{room-for}
@@ -61,9 +60,9 @@ module _ (p m count k : ℕ) (room : List ℕ) (run : RunIs p count room) (whole
   run-long = part-long m k room (take count room) is-room (omega (arith, held-long)) hi
 
   -- it passes the check, and holds the same
-  pub part-run : runOk p count (take k room) ≡ true
+  pub part-run : runCoherent p count (take k room) ≡ true
   part-run =
-      ap (runOk p count) (part-is m k room (take count room) is-room (omega (arith, held-long)) hi) ∙ ap (λ (c : ℕ). runOk p c (roomOf k (take count room))) (sym held-long)
+      ap (runCoherent p count) (part-is m k room (take count room) is-room (omega (arith, held-long)) hi) ∙ ap (λ (c : ℕ). runCoherent p c (roomOf k (take count room))) (sym held-long)
       ∙ room-ok p k (take count room) (omega (arith, held-long)) (run .rises)
 
   pub part-held : take count (take k room) ≡ take count room

@@ -12,13 +12,13 @@ use Rattle.sets.specs.Sets.{From, has, empty, insert, union, only, between, wit
 use Rattle.sets.proofs.Bools.{and-left, and-right, or-right, decide}
 use Rattle.sets.proofs.Has.{has-only, has-between, From-low, From-only, From-raise}
 use Rattle.sets.proofs.Smallest.{smallest-few, largest-few, From-drop, has-drop-sub}
-use Rattle.numbers.specs.Number.{topNumber}
+use Rattle.numbers.specs.Capacities.{topNumber}
 use Rattle.rising.specs.Runs.{risesAbove}
 use Rattle.rising.proofs.Meaning.{Rising, rises-are, are-rising, rising-only, rising-smallest, rising-largest, rising-insert, rising-union, rising-sub}
 use Rattle.rising.proofs.Inserts.{insert-le}
 use Rattle.rising.proofs.Changes.{only-le}
 use Rattle.requested_fragments.specs.Entries.{Entry, samplesOf, requested, sent}
-use Rattle.requested_fragments.specs.Table.{coherentRooms, entriesOf, samplesRoom, wordsRoom, askedIn, markedIn}
+use Rattle.requested_fragments.specs.Table.{fragRoomsCoherent, entriesOf, samplesRoom, wordsRoom, askedIn, markedIn}
 use Rattle.requested_fragments.proofs.Meaning.{Within}
 use Rattle.requested_fragments.proofs.Form.{marked-again}
 use Rattle.requested_fragments.proofs.Both.{Valid as EntriesValid, rooms-pass, rooms-hold, rooms-long, entries-valid}

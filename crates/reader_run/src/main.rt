@@ -2,7 +2,7 @@
 use libc::STDOUT_FILENO;
 use number_sets::FragmentNumberSet;
 use number_sets::SequenceNumberSet;
-use numbers::Cursor;
+use numbers::FragmentCursor;
 use numbers::FragmentNumber;
 use numbers::SequenceNumber;
 use rtps_reader_proxy::ReaderProxy;
@@ -113,11 +113,11 @@ fn f1() -> bool {
         .proxy;
     let p = p.mark_frags_requested(&mut samples, &mut words, seven, pieces(2, 1, 0x80000000))
         .proxy;
-    let one = p.next_frag_requested(&samples, &words, Cursor { from: 1 });
+    let one = p.next_frag_requested(&samples, &words, FragmentCursor { from: 1 });
     let s = one.sample;
     let f = one.fragment;
     let p = p.mark_frag_sent(&mut samples, &mut words, s, f).proxy;
-    let two = p.next_frag_requested(&samples, &words, Cursor { from: 1 });
+    let two = p.next_frag_requested(&samples, &words, FragmentCursor { from: 1 });
     let t = two.sample;
     let g = two.fragment;
     (s.0 == 7) & ((f.0 == 2) & ((t.0 == 9) & (g.0 == 1)))
@@ -134,7 +134,7 @@ fn f2() -> bool {
         .proxy;
     let p = p.mark_frags_requested(&mut samples, &mut words, nine, pieces(2, 1, 0x80000000))
         .proxy;
-    let one = p.next_frag_requested(&samples, &words, Cursor { from: 1 });
+    let one = p.next_frag_requested(&samples, &words, FragmentCursor { from: 1 });
     let s = one.sample;
     let f = one.fragment;
     (s.0 == 9) & (f.0 == 2)

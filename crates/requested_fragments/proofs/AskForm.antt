@@ -14,9 +14,9 @@ use Rattle.sets.proofs.Bools.{and-left, and-right, and-both, and-no, decide}
 use mathlib.Core.Logic.{_⊎_, inl, inr}
 use Rattle.requested_fragments.specs.Words.{fragmentsOf}
 use Rattle.rising.specs.Runs.{risesAbove, over}
-use Rattle.numbers.specs.Number.{topNumber}
-use Rattle.requested_fragments.specs.Entries.{Entry, asked, requested, samplesOf}
-use Rattle.requested_fragments.specs.Table.{Block, blocksOf, samplesIn, askT, askAll, askable, tableOf, entriesOf, coherentRooms, fits, askedIn}
+use Rattle.numbers.specs.Capacities.{topNumber}
+use Rattle.requested_fragments.specs.Entries.{Entry, requestedSome, requested, samplesOf}
+use Rattle.requested_fragments.specs.Table.{Block, blocksOf, samplesIn, askT, askAll, askable, tableOf, entriesOf, fragRoomsCoherent, roomsHold, askedIn}
 use Rattle.number_sets.specs.declared.fragment_number_set.FragmentNumberSet.{FragmentNumberSet}
 use Rattle.number_sets.specs.Bits.{members}
 use Rattle.number_sets.specs.Calls.{fragmentSet}
@@ -103,9 +103,9 @@ askable-rises set =
     (λ n e. askable-within set n e .0)
 
 -- a request that finds room leaves rooms that pass the check, hold what they held and what was asked for, and are as long
-pub asked-again : (count : ℕ) (S W : List ℕ) (n : ℕ) (ms : List ℕ) → coherentRooms count S W ≡ true → From 1 ms → Within ms 64 → 0 < n → n ≤ 9223372036854775806
+pub asked-again : (count : ℕ) (S W : List ℕ) (n : ℕ) (ms : List ℕ) → fragRoomsCoherent count S W ≡ true → From 1 ms → Within ms 64 → 0 < n → n ≤ 9223372036854775806
     → length (askT n ms (tableOf count S W)) ≤ length S
-    → (coherentRooms (askedIn n ms count S W .result) (askedIn n ms count S W .first) (askedIn n ms count S W .second) ≡ true)
+    → (fragRoomsCoherent (askedIn n ms count S W .result) (askedIn n ms count S W .first) (askedIn n ms count S W .second) ≡ true)
     × (entriesOf (askedIn n ms count S W .result) (askedIn n ms count S W .first) (askedIn n ms count S W .second) ≡ requested n ms (entriesOf count S W))
     × (length (askedIn n ms count S W .first) ≡ length S)
 asked-again count S W n ms h r1 w lo hi room = go (empty ms) refl
@@ -113,20 +113,20 @@ asked-again count S W n ms h r1 w lo hi room = go (empty ms) refl
     c : Coherent count S W
     c = is-coherent count S W h
 
-    k0 : fits count S W ≡ true
+    k0 : roomsHold count S W ≡ true
     k0 = fit count S W (c .small) (omega (arith, c .small, c .lengthW))
 
     go : (t : Bool) → empty ms ≡ t
-        → (coherentRooms (askedIn n ms count S W .result) (askedIn n ms count S W .first) (askedIn n ms count S W .second) ≡ true)
-        × (entriesOf (askedIn n ms count S W .result) (askedIn n ms count S W .first) (askedIn n ms count S W .second) ≡ cond t (entriesOf count S W) (asked n ms (entriesOf count S W)))
+        → (fragRoomsCoherent (askedIn n ms count S W .result) (askedIn n ms count S W .first) (askedIn n ms count S W .second) ≡ true)
+        × (entriesOf (askedIn n ms count S W .result) (askedIn n ms count S W .first) (askedIn n ms count S W .second) ≡ cond t (entriesOf count S W) (requestedSome n ms (entriesOf count S W)))
         × (length (askedIn n ms count S W .first) ≡ length S)
     go true e = rw (k0, e) (h, refl, refl)
     go false e =
         let t = askT n ms (tableOf count S W) in
         let f0 : Fit (length S) (tableOf count S W) = coherent-fit count S W c in
         let g : Fit (length S) t = ask-fit n ms r1 w e lo hi (length S) (tableOf count S W) f0 room in
-        let k1 : fits (length t) S W ≡ true = fit (length t) S W room (omega (arith, c .lengthW, room)) in
-        rw (k0, e, k1) (form-again count S W t c g (asked n ms (entriesOf count S W)) (ask-means n ms r1 w (tableOf count S W) (f0 .full)))
+        let k1 : roomsHold (length t) S W ≡ true = fit (length t) S W room (omega (arith, c .lengthW, room)) in
+        rw (k0, e, k1) (form-again count S W t c g (requestedSome n ms (entriesOf count S W)) (ask-means n ms r1 w (tableOf count S W) (f0 .full)))
 
 -- of a set whose base is not 0 and that has no member above 4,096, all members can be asked for
 pub askable-all : (set : FragmentNumberSet) → 1 ≤ set .base .0 → empty (only (leb 4097) (members (fragmentSet set))) ≡ true → askable set ≡ members (fragmentSet set)
@@ -155,12 +155,12 @@ askable-all set h e =
     go n (inr q) = rw (q, and-no (leb 1 n && leb n 4096)) refl
 
 -- the samples after a request: n joins them, so there is one entry more where n had none
-pub asked-samples : (n : ℕ) (ms : List ℕ) (es : List Entry) → samplesOf (asked n ms es) ≡ insert n (samplesOf es)
+pub asked-samples : (n : ℕ) (ms : List ℕ) (es : List Entry) → samplesOf (requestedSome n ms es) ≡ insert n (samplesOf es)
 asked-samples n ms [] = refl
 asked-samples n ms (e ∷ es) = go (decide (eqb (e .sample) n)) (decide (leb n (e .sample))) (asked-samples n ms es)
   where
-    go : (eqb (e .sample) n ≡ true) ⊎ (eqb (e .sample) n ≡ false) → (leb n (e .sample) ≡ true) ⊎ (leb n (e .sample) ≡ false) → samplesOf (asked n ms es) ≡ insert n (samplesOf es)
-        → samplesOf (asked n ms (e ∷ es)) ≡ insert n (e .sample ∷ samplesOf es)
+    go : (eqb (e .sample) n ≡ true) ⊎ (eqb (e .sample) n ≡ false) → (leb n (e .sample) ≡ true) ⊎ (leb n (e .sample) ≡ false) → samplesOf (requestedSome n ms es) ≡ insert n (samplesOf es)
+        → samplesOf (requestedSome n ms (e ∷ es)) ≡ insert n (e .sample ∷ samplesOf es)
     go (inl p) q r = rw (p, le-ltb n (e .sample) (omega (arith, eqb-true (e .sample) n p)), eq-eqb n (e .sample) (sym (eqb-true (e .sample) n p))) refl
     go (inr p) (inl q) r = rw (p, q, lt-ltb n (e .sample) (strict (leb-true n (e .sample) q) (eqb-false (e .sample) n p))) refl
       where

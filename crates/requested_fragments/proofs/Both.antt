@@ -16,8 +16,8 @@ use Rattle.sets.proofs.Bools.{decide, and-both}
 use Rattle.rising.specs.Runs.{risesAbove, roomOf}
 use Rattle.rising.proofs.Meaning.{room-length}
 use Rattle.requested_fragments.specs.Words.{fragmentsOf, asking}
-use Rattle.requested_fragments.specs.Entries.{Entry, asked, sent, samplesOf}
-use Rattle.requested_fragments.specs.Table.{Block, samplesIn, wordsIn, view, tableOf, entriesOf, coherentRooms, askAll, blocksFor, samplesRoom, wordsRoom}
+use Rattle.requested_fragments.specs.Entries.{Entry, requestedSome, sent, samplesOf}
+use Rattle.requested_fragments.specs.Table.{Block, samplesIn, wordsIn, blocksView, tableOf, entriesOf, fragRoomsCoherent, askAll, blocksFor, samplesRoom, wordsRoom}
 use Rattle.requested_fragments.proofs.Asking.{askAll-length}
 use Rattle.requested_fragments.proofs.Coherent.{Coherent, is-coherent, coherent-is}
 use Rattle.requested_fragments.proofs.Meaning.{Full, Within, askAll-new}
@@ -47,10 +47,10 @@ full-for : (es : List Entry) → Full (blocksFor es)
 full-for [] = tt
 full-for (e ∷ es) = (askAll-length (e .frags) (replicate 64 0), full-for es)
 
-view-for : (es : List Entry) → Asks es → view (blocksFor es) ≡ es
+view-for : (es : List Entry) → Asks es → blocksView (blocksFor es) ≡ es
 view-for [] h = refl
 view-for (e ∷ es) h =
-    ap (λ (l : List ℕ). record { sample = e .sample; frags = l } ∷ view (blocksFor es)) (askAll-new 64 (e .frags) (h .0 .0) (h .0 .1 .0))
+    ap (λ (l : List ℕ). record { sample = e .sample; frags = l } ∷ blocksView (blocksFor es)) (askAll-new 64 (e .frags) (h .0 .0) (h .0 .1 .0))
     ∙ ap (λ (l : List Entry). e ∷ l) (view-for es (h .1))
 
 hold-for : (es : List Entry) → Asks es → holdT (blocksFor es) ≡ true
@@ -80,17 +80,17 @@ rooms-long k es few = room-length k (samplesOf es) (omega (arith, samples-count 
 
 -- THE ROOMS OF VALID ENTRIES, for k samples, pass the check, and hold these entries
 module _ (k : ℕ) (es : List Entry) (v : Valid es) (few : length es ≤ k) where
-  pub rooms-pass : k ≤ 16 → coherentRooms (length es) (samplesRoom k es) (wordsRoom k es) ≡ true
+  pub rooms-pass : k ≤ 16 → fragRoomsCoherent (length es) (samplesRoom k es) (wordsRoom k es) ≡ true
   rooms-pass most =
-      subst (λ (c : ℕ). coherentRooms c (samplesRoom k es) (wordsRoom k es) ≡ true) (length-for es)
-      (subst (λ (l : List ℕ). coherentRooms (length (blocksFor es)) (roomOf k l) (wordsRoom k es) ≡ true) (samples-for es)
+      subst (λ (c : ℕ). fragRoomsCoherent c (samplesRoom k es) (wordsRoom k es) ≡ true) (length-for es)
+      (subst (λ (l : List ℕ). fragRoomsCoherent (length (blocksFor es)) (roomOf k l) (wordsRoom k es) ≡ true) (samples-for es)
       (coherent-is (length (blocksFor es)) (roomOf k (samplesIn (blocksFor es))) (wordsRoom k es) (form-coherent k (blocksFor es) most (fit-for k es v few))))
 
   pub rooms-hold : entriesOf (length es) (samplesRoom k es) (wordsRoom k es) ≡ es
   rooms-hold =
       ap (λ (c : ℕ). entriesOf c (samplesRoom k es) (wordsRoom k es)) (sym (length-for es))
       ∙ ap (λ (l : List ℕ). entriesOf (length (blocksFor es)) (roomOf k l) (wordsRoom k es)) (sym (samples-for es))
-      ∙ ap view (form-table k (blocksFor es) (fit-for k es v few)) ∙ view-for es (v .asks)
+      ∙ ap blocksView (form-table k (blocksFor es) (fit-for k es v few)) ∙ view-for es (v .asks)
 
 -- ---- back
 ask-words : (f : ℕ) (ws : List ℕ) → Words ws → Words (asking f ws)
@@ -127,33 +127,33 @@ bounded-for : (es : List Entry) → Bounded (blocksFor es)
 bounded-for [] = tt
 bounded-for (e ∷ es) = (all-words (e .frags) (replicate 64 0) (zero-words 64), bounded-for es)
 
-asks-of : (t : List Block) → Full t → holdT t ≡ true → Asks (view t)
+asks-of : (t : List Block) → Full t → holdT t ≡ true → Asks (blocksView t)
 asks-of [] f h = tt
 asks-of (b ∷ bs) f h = go (empty (fragmentsOf (b .words))) refl h (asks-of bs (f .1))
   where
-    go : (z : Bool) → empty (fragmentsOf (b .words)) ≡ z → (not z && holdT bs) ≡ true → (holdT bs ≡ true → Asks (view bs)) → Asks (view (b ∷ bs))
+    go : (z : Bool) → empty (fragmentsOf (b .words)) ≡ z → (not z && holdT bs) ≡ true → (holdT bs ≡ true → Asks (blocksView bs)) → Asks (blocksView (b ∷ bs))
     go true e q r = absurd (omega-false q)
       where
         omega-false : false ≡ true → ⊥
         omega-false w = let o : _≡_ {A = ℕ} 0 1 = cc in omega arith
     go false e q r = ((frag-rises (b .words), (subst (λ (k : ℕ). Within (fragmentsOf (b .words)) k) (f .0) (frag-within (b .words)), e)), r q)
 
-pub view-samples : (t : List Block) → samplesOf (view t) ≡ samplesIn t
+pub view-samples : (t : List Block) → samplesOf (blocksView t) ≡ samplesIn t
 view-samples [] = refl
 view-samples (b ∷ bs) = ap (λ (l : List ℕ). b .sample ∷ l) (view-samples bs)
 
-pub view-length : (t : List Block) → length (view t) ≡ length t
+pub view-length : (t : List Block) → length (blocksView t) ≡ length t
 view-length [] = refl
 view-length (b ∷ bs) = ap suc (view-length bs)
 
-pub entries-valid : (c : ℕ) (S W : List ℕ) → coherentRooms c S W ≡ true → Valid (entriesOf c S W)
+pub entries-valid : (c : ℕ) (S W : List ℕ) → fragRoomsCoherent c S W ≡ true → Valid (entriesOf c S W)
 entries-valid c S W h =
     let t = tableOf c S W in
     let f = coherent-fit c S W (is-coherent c S W h) in
     record { small = omega (arith, view-length t, f .small, is-coherent c S W h .lengthS); rises = ap (risesAbove 0) (view-samples t) ∙ f .rises; asks = asks-of t (f .full) (f .holds) }
 
 -- there are no more of them than what is lent has room for; and no more after one was sent
-pub entries-few : (c : ℕ) (S W : List ℕ) → coherentRooms c S W ≡ true → length (entriesOf c S W) ≤ length S
+pub entries-few : (c : ℕ) (S W : List ℕ) → fragRoomsCoherent c S W ≡ true → length (entriesOf c S W) ≤ length S
 entries-few c S W h = omega (arith, view-length (tableOf c S W), coherent-fit c S W (is-coherent c S W h) .small)
 
 pub sent-few : (n f : ℕ) (es : List Entry) → length (sent n f es) ≤ length es
@@ -166,7 +166,7 @@ sent-few n f (e ∷ es) = go (eqb (e .sample) n) (empty (without f (e .frags))) 
     go false y r = omega arith
 
 -- ROOMS THAT PASS THE CHECK are those of their entries
-pub rooms-are : (c : ℕ) (S W : List ℕ) → coherentRooms c S W ≡ true → Words W → (c ≡ length (entriesOf c S W)) × (S ≡ samplesRoom (length S) (entriesOf c S W)) × (W ≡ wordsRoom (length S) (entriesOf c S W))
+pub rooms-are : (c : ℕ) (S W : List ℕ) → fragRoomsCoherent c S W ≡ true → Words W → (c ≡ length (entriesOf c S W)) × (S ≡ samplesRoom (length S) (entriesOf c S W)) × (W ≡ wordsRoom (length S) (entriesOf c S W))
 rooms-are c S W h hw =
     let k = is-coherent c S W h in
     let t = tableOf c S W in

@@ -10,13 +10,13 @@ use native.Mathlib.Omega.{arith}
 use native.Mathlib.Nat.{div-one, div-self, div-eq-of-lt, mul-one, mul-mod-left, pow-suc, mul-div-cancel}
 use borrow.Author.Tests.{eqb-true, eqb-false, eq-eqb, ne-eqb, ltb-true, ltb-false}
 use Rattle.number_sets.proofs.Join.{one-bit, two, or-digit}
-use Rattle.requested_fragments.specs.Words.{bitOf}
+use Rattle.requested_fragments.specs.Words.{lowBitOf}
 
-pub or-bit : (w k j : ℕ) → bitOf (bitOr w (2 ^ k)) j ≡ (bitOf w j || eqb j k)
+pub or-bit : (w k j : ℕ) → lowBitOf (bitOr w (2 ^ k)) j ≡ (lowBitOf w j || eqb j k)
 or-bit = or-digit
 
 -- where bit k is set, turning it clears it
-pub xor-bit : (w k j : ℕ) → bitOf w k ≡ true → bitOf (bitXor w (2 ^ k)) j ≡ (not (eqb j k) && bitOf w j)
+pub xor-bit : (w k j : ℕ) → lowBitOf w k ≡ true → lowBitOf (bitXor w (2 ^ k)) j ≡ (not (eqb j k) && lowBitOf w j)
 xor-bit w k j h =
     ap (λ (x : ℕ). eqb (x % 2) 1) (xor-shr w (2 ^ k) j)
     ∙ ap (λ (x : ℕ). eqb x 1) (xor-mod (w / 2 ^ j) (2 ^ k / 2 ^ j) 1)

@@ -10,7 +10,7 @@ use borrow.Author.Tests.{eq-eqb, ne-eqb, le-leb, eqb-true, eqb-false}
 use Rattle.sets.specs.Sets.{has, From, empty, only, without, firstOr}
 use Rattle.sets.proofs.Has.{From-weak}
 use Rattle.requested_fragments.specs.Entries.{Entry, keep, sent, nextSample, nextFragment}
-use Rattle.requested_fragments.specs.Drain.{Sound, Piece, piecesOf, allAsked, Run, offering, turns, times, isAsked}
+use Rattle.requested_fragments.specs.Drain.{EntriesCoherent, Piece, piecesOf, allAsked, DrainRun, offering, turns, times, isAsked}
 
 -- a number below all of a set is not in it
 low-without : (f b : ℕ) (l : List ℕ) → f < b → From b l → without f l ≡ l
@@ -23,7 +23,7 @@ first-gone : (f : ℕ) (fs : List ℕ) → From 1 (f ∷ fs) → without f (f �
 first-gone f fs g = rw (eq-eqb f f refl) (low-without f (suc f) fs (omega arith) (g .1))
 
 -- what a run leaves and offers where all comes up
-abbrev all : List Entry → Run
+abbrev all : List Entry → DrainRun
 all es = record { offered = allAsked es; left = [] }
 
 -- one entry, fragment by fragment
@@ -45,7 +45,7 @@ entry (f ∷ (x ∷ xs)) (suc k) n es g z h r =
     rw (a, b, d, w) (ap (offering (record { sample = n; frag = f })) (entry (x ∷ xs) k n es (From-weak 1 (suc f) (x ∷ xs) (omega arith) (g .1)) refl (omega arith) r))
 
 -- with as many turns as fragments are asked for, or more
-pub drained : (k s : ℕ) (es : List Entry) → Sound s es → length (allAsked es) ≤ k → turns k es ≡ record { offered = allAsked es; left = [] }
+pub drained : (k s : ℕ) (es : List Entry) → EntriesCoherent s es → length (allAsked es) ≤ k → turns k es ≡ record { offered = allAsked es; left = [] }
 drained zero s [] g h = refl
 drained (suc k) s [] g h = refl
 drained k s (e ∷ es) g h = entry (e .frags) k (e .sample) es (g .1 .0) (g .1 .1 .0) h (λ j q. drained j (suc (e .sample)) es (g .1 .1 .1) q)
@@ -81,7 +81,7 @@ times-same n f b (x ∷ xs) g = go (eqb x f) refl (times-same n f (suc x) xs (g 
         rw (d, e) (ap suc (r ∙ ap (λ (t : Bool). cond t 1 0) z))
     go false e r = rw (d, e) r
 
-later : (s n f : ℕ) (es : List Entry) → Sound s es → n < s → (isAsked n f es ≡ false) × (times n f (allAsked es) ≡ 0)
+later : (s n f : ℕ) (es : List Entry) → EntriesCoherent s es → n < s → (isAsked n f es ≡ false) × (times n f (allAsked es) ≡ 0)
 later s n f [] g h = (refl, refl)
 later s n f (e ∷ es) g h =
     let d : eqb (e .sample) n ≡ false = ne-eqb (e .sample) n (λ (z : e .sample ≡ n). omega (arith, g .0)) in
@@ -90,7 +90,7 @@ later s n f (e ∷ es) g h =
     (rw d q, times-append n f (piecesOf (e .sample) (e .frags)) (allAsked es) ∙ omega (arith, times-other n (e .sample) f (e .frags) d, r .1))
 
 -- what is asked for is offered once, and what is not, never
-pub once : (s n f : ℕ) (es : List Entry) → Sound s es → times n f (allAsked es) ≡ cond (isAsked n f es) 1 0
+pub once : (s n f : ℕ) (es : List Entry) → EntriesCoherent s es → times n f (allAsked es) ≡ cond (isAsked n f es) 1 0
 once s n f [] g = refl
 once s n f (e ∷ es) g = times-append n f (piecesOf (e .sample) (e .frags)) (allAsked es) ∙ go (eqb (e .sample) n) refl (once (suc (e .sample)) n f es (g .1 .1 .1))
   where

@@ -14,9 +14,9 @@ use Rattle.requested_fragments.proofs.Frags.{notAsking-length}
 use Rattle.rising.specs.Runs.{risesAbove, zeros, over, roomOf}
 use Rattle.sets.proofs.Bools.{and-left, and-right, and-both}
 use Rattle.rising.proofs.Meaning.{room-length}
-use Rattle.numbers.specs.Number.{topNumber}
+use Rattle.numbers.specs.Capacities.{topNumber}
 use Rattle.requested_fragments.specs.Entries.{Entry, sent}
-use Rattle.requested_fragments.specs.Table.{Block, blocksOf, samplesIn, wordsIn, markT, allHold, view, tableOf, entriesOf, coherentRooms, markedIn, fits}
+use Rattle.requested_fragments.specs.Table.{Block, blocksOf, samplesIn, wordsIn, markT, allHold, blocksView, tableOf, entriesOf, fragRoomsCoherent, markedIn, roomsHold}
 use Rattle.requested_fragments.proofs.Blocks.{samples-of, length-of, samples-length}
 use Rattle.requested_fragments.proofs.Coherent.{Coherent, is-coherent, coherent-is}
 use Rattle.requested_fragments.proofs.Laws.{fit}
@@ -194,24 +194,24 @@ holding-form count S W t c f = (
 )
 
 -- rooms with such a table in the place of theirs pass the check, hold what it means, and are as long as before
-pub form-again : (count : ℕ) (S W : List ℕ) (t : List Block) → Coherent count S W → Fit (length S) t → (es : List Entry) → view t ≡ es
-    → (coherentRooms (length t) (over S count (samplesIn t)) (over W (64 * count) (wordsIn t)) ≡ true) × (entriesOf (length t) (over S count (samplesIn t)) (over W (64 * count) (wordsIn t)) ≡ es)
+pub form-again : (count : ℕ) (S W : List ℕ) (t : List Block) → Coherent count S W → Fit (length S) t → (es : List Entry) → blocksView t ≡ es
+    → (fragRoomsCoherent (length t) (over S count (samplesIn t)) (over W (64 * count) (wordsIn t)) ≡ true) × (entriesOf (length t) (over S count (samplesIn t)) (over W (64 * count) (wordsIn t)) ≡ es)
     × (length (over S count (samplesIn t)) ≡ length S)
 form-again count S W t c g es e =
     let q = holding-form count S W t c g in
     let k = length S in
-    let co : coherentRooms (length t) (roomOf k (samplesIn t)) (roomOf (64 * k) (wordsIn t)) ≡ true = coherent-is (length t) (roomOf k (samplesIn t)) (roomOf (64 * k) (wordsIn t)) (form-coherent k t (c .lengthS) g) in
-    let vi : entriesOf (length t) (roomOf k (samplesIn t)) (roomOf (64 * k) (wordsIn t)) ≡ es = ap view (form-table k t g) ∙ e in
+    let co : fragRoomsCoherent (length t) (roomOf k (samplesIn t)) (roomOf (64 * k) (wordsIn t)) ≡ true = coherent-is (length t) (roomOf k (samplesIn t)) (roomOf (64 * k) (wordsIn t)) (form-coherent k t (c .lengthS) g) in
+    let vi : entriesOf (length t) (roomOf k (samplesIn t)) (roomOf (64 * k) (wordsIn t)) ≡ es = ap blocksView (form-table k t g) ∙ e in
     rw (q .0, q .1) (co, vi, room-length k (samplesIn t) (omega (arith, samples-length t, g .small)))
 
 -- marking leaves rooms that pass the check, hold what they held but that fragment, and are as long
-pub marked-again : (count : ℕ) (S W : List ℕ) (n f : ℕ) → coherentRooms count S W ≡ true
-    → (coherentRooms (markedIn n f count S W .result) (markedIn n f count S W .first) (markedIn n f count S W .second) ≡ true)
+pub marked-again : (count : ℕ) (S W : List ℕ) (n f : ℕ) → fragRoomsCoherent count S W ≡ true
+    → (fragRoomsCoherent (markedIn n f count S W .result) (markedIn n f count S W .first) (markedIn n f count S W .second) ≡ true)
     × (entriesOf (markedIn n f count S W .result) (markedIn n f count S W .first) (markedIn n f count S W .second) ≡ sent n f (entriesOf count S W))
     × (length (markedIn n f count S W .first) ≡ length S)
 marked-again count S W n f h =
     let c = is-coherent count S W h in
     let t = markT n f (tableOf count S W) in
     let g : Fit (length S) t = mark-fit n f (length S) (tableOf count S W) (coherent-fit count S W c) in
-    let k : fits count S W ≡ true = fit count S W (c .small) (omega (arith, c .small, c .lengthW)) in
+    let k : roomsHold count S W ≡ true = fit count S W (c .small) (omega (arith, c .small, c .lengthW)) in
     rw k (form-again count S W t c g (sent n f (entriesOf count S W)) (mark-means n f (tableOf count S W)))

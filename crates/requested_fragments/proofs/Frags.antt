@@ -20,39 +20,39 @@ use Rattle.sets.proofs.Bools.{decide, clash}
 use Rattle.sets.proofs.Those.{From-those, has-those-is}
 use Rattle.sets.proofs.Ext.{ext, From-off}
 use Rattle.sets.proofs.First.{first-is, first-none, empty-none}
-use Rattle.requested_fragments.specs.Words.{bitOf, bitAt, fragmentsOf, asking, notAsking, nextIn}
+use Rattle.requested_fragments.specs.Words.{lowBitOf, lowBitAt, fragmentsOf, asking, notAsking, nextIn}
 use Rattle.requested_fragments.proofs.Digit.{or-bit, xor-bit}
 
-pub zero-bit : (j : ℕ) → bitOf 0 j ≡ false
+pub zero-bit : (j : ℕ) → lowBitOf 0 j ≡ false
 zero-bit j = ap (λ (x : ℕ). eqb (x % 2) 1) (zero-div (2 ^ j))
 
 pub frag-rises : (ws : List ℕ) → From 1 (fragmentsOf ws)
-frag-rises ws = From-those (64 * length ws) 1 (λ f. bitAt ws (f - 1))
+frag-rises ws = From-those (64 * length ws) 1 (λ f. lowBitAt ws (f - 1))
 
 pub frag-zero : (ws : List ℕ) → has (fragmentsOf ws) 0 ≡ false
 frag-zero ws = From-off 1 (fragmentsOf ws) 0 (frag-rises ws) (omega arith)
 
-pub past : (ws : List ℕ) (p : ℕ) → 64 * length ws ≤ p → bitAt ws p ≡ false
+pub past : (ws : List ℕ) (p : ℕ) → 64 * length ws ≤ p → lowBitAt ws p ≡ false
 past ws p h =
     let q : length ws ≤ p / 64 = omega arith in
-    ap (λ (w : ℕ). bitOf w (p % 64)) (List·getD-eq-default ws 0 q) ∙ zero-bit (p % 64)
+    ap (λ (w : ℕ). lowBitOf w (p % 64)) (List·getD-eq-default ws 0 q) ∙ zero-bit (p % 64)
 
-pub frag-at : (ws : List ℕ) (p : ℕ) → has (fragmentsOf ws) (suc p) ≡ bitAt ws p
-frag-at ws p = has-those-is (64 * length ws) 1 (λ f. bitAt ws (f - 1)) (suc p) ∙ go (decide (ltb (suc p) (1 + 64 * length ws)))
+pub frag-at : (ws : List ℕ) (p : ℕ) → has (fragmentsOf ws) (suc p) ≡ lowBitAt ws p
+frag-at ws p = has-those-is (64 * length ws) 1 (λ f. lowBitAt ws (f - 1)) (suc p) ∙ go (decide (ltb (suc p) (1 + 64 * length ws)))
   where
     back : suc p - 1 ≡ p
     back = omega arith
 
-    go : (ltb (suc p) (1 + 64 * length ws) ≡ true) ⊎ (ltb (suc p) (1 + 64 * length ws) ≡ false) → ((leb 1 (suc p) && ltb (suc p) (1 + 64 * length ws)) && bitAt ws (suc p - 1)) ≡ bitAt ws p
+    go : (ltb (suc p) (1 + 64 * length ws) ≡ true) ⊎ (ltb (suc p) (1 + 64 * length ws) ≡ false) → ((leb 1 (suc p) && ltb (suc p) (1 + 64 * length ws)) && lowBitAt ws (suc p - 1)) ≡ lowBitAt ws p
     go (inl e) = rw (le-leb 1 (suc p) (omega arith), e, back) refl
     go (inr e) = rw (le-leb 1 (suc p) (omega arith), e) (sym (past ws p (omega (arith, ltb-false (suc p) (1 + 64 * length ws) e))))
 
 -- for any number
-pub frag-of : (ws : List ℕ) (f : ℕ) → 1 ≤ f → has (fragmentsOf ws) f ≡ bitAt ws (f - 1)
+pub frag-of : (ws : List ℕ) (f : ℕ) → 1 ≤ f → has (fragmentsOf ws) f ≡ lowBitAt ws (f - 1)
 frag-of ws f h = let e : f ≡ suc (f - 1) = omega arith in ap (has (fragmentsOf ws)) e ∙ frag-at ws (f - 1)
 
 -- ---- two runs that ask alike
-pub same-bits : (ws vs : List ℕ) → ((p : ℕ) → bitAt ws p ≡ bitAt vs p) → fragmentsOf ws ≡ fragmentsOf vs
+pub same-bits : (ws vs : List ℕ) → ((p : ℕ) → lowBitAt ws p ≡ lowBitAt vs p) → fragmentsOf ws ≡ fragmentsOf vs
 same-bits ws vs h = ext 1 1 (fragmentsOf ws) (fragmentsOf vs) (frag-rises ws) (frag-rises vs) go
   where
     go : (n : ℕ) → has (fragmentsOf ws) n ≡ has (fragmentsOf vs) n
@@ -69,11 +69,11 @@ abbrev turned : ℕ → List ℕ → List ℕ
 turned q ws = set ws (q / 64) (bitXor (getD ws (q / 64) 0) (2 ^ (q % 64)))
 
 module _ (q p : ℕ) (ws : List ℕ) (h : q / 64 < length ws) where
-  other : (v : ℕ) → (p / 64 ≡ q / 64 → ⊥) → bitAt (set ws (q / 64) v) p ≡ bitAt ws p
-  other v d = ap (λ (w : ℕ). bitOf w (p % 64)) (getD-set-other ws (q / 64) (p / 64) v 0 d)
+  other : (v : ℕ) → (p / 64 ≡ q / 64 → ⊥) → lowBitAt (set ws (q / 64) v) p ≡ lowBitAt ws p
+  other v d = ap (λ (w : ℕ). lowBitOf w (p % 64)) (getD-set-other ws (q / 64) (p / 64) v 0 d)
 
-  same : (v : ℕ) → p / 64 ≡ q / 64 → bitAt (set ws (q / 64) v) p ≡ bitOf v (p % 64)
-  same v e = ap (λ (i : ℕ). bitOf (getD (set ws (q / 64) v) i 0) (p % 64)) e ∙ ap (λ (w : ℕ). bitOf w (p % 64)) (getD-set-same ws (q / 64) v 0 h)
+  same : (v : ℕ) → p / 64 ≡ q / 64 → lowBitAt (set ws (q / 64) v) p ≡ lowBitOf v (p % 64)
+  same v e = ap (λ (i : ℕ). lowBitOf (getD (set ws (q / 64) v) i 0) (p % 64)) e ∙ ap (λ (w : ℕ). lowBitOf w (p % 64)) (getD-set-same ws (q / 64) v 0 h)
 
   here : p / 64 ≡ q / 64 → eqb (p % 64) (q % 64) ≡ eqb q p
   here e = eqb-same (p % 64) (q % 64) q p (λ z. omega (arith, div-add-mod p 64, div-add-mod q 64)) (λ z. ap (λ (x : ℕ). x % 64) (sym z))
@@ -87,32 +87,32 @@ module _ (q p : ℕ) (ws : List ℕ) (h : q / 64 < length ws) where
   swap false true = refl
   swap false false = refl
 
-  pub asked-bit : bitAt (asked q ws) p ≡ (eqb q p || bitAt ws p)
+  pub asked-bit : lowBitAt (asked q ws) p ≡ (eqb q p || lowBitAt ws p)
   asked-bit = go (decide (eqb (p / 64) (q / 64)))
     where
-      go : (eqb (p / 64) (q / 64) ≡ true) ⊎ (eqb (p / 64) (q / 64) ≡ false) → bitAt (asked q ws) p ≡ (eqb q p || bitAt ws p)
+      go : (eqb (p / 64) (q / 64) ≡ true) ⊎ (eqb (p / 64) (q / 64) ≡ false) → lowBitAt (asked q ws) p ≡ (eqb q p || lowBitAt ws p)
       go (inl e) =
           let z : p / 64 ≡ q / 64 = eqb-true (p / 64) (q / 64) e in
           same _ z ∙ or-bit (getD ws (q / 64) 0) (q % 64) (p % 64)
-          ∙ swap (bitOf (getD ws (q / 64) 0) (p % 64)) (eqb (p % 64) (q % 64))
-          ∙ ap (λ (t : Bool). t || bitOf (getD ws (q / 64) 0) (p % 64)) (here z)
-          ∙ ap (λ (i : ℕ). eqb q p || bitOf (getD ws i 0) (p % 64)) (sym z)
+          ∙ swap (lowBitOf (getD ws (q / 64) 0) (p % 64)) (eqb (p % 64) (q % 64))
+          ∙ ap (λ (t : Bool). t || lowBitOf (getD ws (q / 64) 0) (p % 64)) (here z)
+          ∙ ap (λ (i : ℕ). eqb q p || lowBitOf (getD ws i 0) (p % 64)) (sym z)
       go (inr e) =
           let d : p / 64 ≡ q / 64 → ⊥ = eqb-false (p / 64) (q / 64) e in
-          other _ d ∙ ap (λ (t : Bool). t || bitAt ws p) (sym (off d))
+          other _ d ∙ ap (λ (t : Bool). t || lowBitAt ws p) (sym (off d))
 
-  pub turned-bit : bitAt ws q ≡ true → bitAt (turned q ws) p ≡ (not (eqb q p) && bitAt ws p)
+  pub turned-bit : lowBitAt ws q ≡ true → lowBitAt (turned q ws) p ≡ (not (eqb q p) && lowBitAt ws p)
   turned-bit k = go (decide (eqb (p / 64) (q / 64)))
     where
-      go : (eqb (p / 64) (q / 64) ≡ true) ⊎ (eqb (p / 64) (q / 64) ≡ false) → bitAt (turned q ws) p ≡ (not (eqb q p) && bitAt ws p)
+      go : (eqb (p / 64) (q / 64) ≡ true) ⊎ (eqb (p / 64) (q / 64) ≡ false) → lowBitAt (turned q ws) p ≡ (not (eqb q p) && lowBitAt ws p)
       go (inl e) =
           let z : p / 64 ≡ q / 64 = eqb-true (p / 64) (q / 64) e in
           same _ z ∙ xor-bit (getD ws (q / 64) 0) (q % 64) (p % 64) k
-          ∙ ap (λ (t : Bool). not t && bitOf (getD ws (q / 64) 0) (p % 64)) (here z)
-          ∙ ap (λ (i : ℕ). not (eqb q p) && bitOf (getD ws i 0) (p % 64)) (sym z)
+          ∙ ap (λ (t : Bool). not t && lowBitOf (getD ws (q / 64) 0) (p % 64)) (here z)
+          ∙ ap (λ (i : ℕ). not (eqb q p) && lowBitOf (getD ws i 0) (p % 64)) (sym z)
       go (inr e) =
           let d : p / 64 ≡ q / 64 → ⊥ = eqb-false (p / 64) (q / 64) e in
-          other _ d ∙ ap (λ (t : Bool). not t && bitAt ws p) (sym (off d))
+          other _ d ∙ ap (λ (t : Bool). not t && lowBitAt ws p) (sym (off d))
 
 -- ---- what asking for a fragment and clearing it leave
 pub asking-is : (f : ℕ) (ws : List ℕ) → 1 ≤ f → f ≤ 64 * length ws → fragmentsOf (asking f ws) ≡ insert f (fragmentsOf ws)
@@ -130,7 +130,7 @@ asking-is f ws lo hi =
     go zero = frag-zero (asked (f - 1) ws) ∙ sym (has-insert f 0 (fragmentsOf ws) ∙ ap (λ (t : Bool). t || has (fragmentsOf ws) 0) (ne-eqb f 0 (λ z. omega arith)) ∙ frag-zero ws)
     go (suc p) =
         frag-at (asked (f - 1) ws) p ∙ asked-bit (f - 1) p ws inside
-        ∙ ap (λ (t : Bool). t || bitAt ws p) (sym (eqb-suc (f - 1) p) ∙ ap (λ (x : ℕ). eqb x (suc p)) (sym up))
+        ∙ ap (λ (t : Bool). t || lowBitAt ws p) (sym (eqb-suc (f - 1) p) ∙ ap (λ (x : ℕ). eqb x (suc p)) (sym up))
         ∙ ap (λ (t : Bool). eqb f (suc p) || t) (sym (frag-at ws p))
         ∙ sym (has-insert f (suc p) (fragmentsOf ws))
 
@@ -150,11 +150,11 @@ notAsking-is f ws = cases (has (fragmentsOf ws) f) refl
     clear : (g : ℕ) → has (fragmentsOf ws) (suc g) ≡ true → fragmentsOf (turned g ws) ≡ without (suc g) (fragmentsOf ws)
     clear g e = ext 1 1 (fragmentsOf (turned g ws)) (without (suc g) (fragmentsOf ws)) (frag-rises (turned g ws)) (From-only 1 (λ n. not (eqb (suc g) n)) (fragmentsOf ws) (frag-rises ws)) go
       where
-        bit : bitAt ws g ≡ true
+        bit : lowBitAt ws g ≡ true
         bit = sym (frag-at ws g) ∙ e
 
         inside : g / 64 < length ws
-        inside = elim (decide (ltb g (64 * length ws))) [ inl z ↦ omega (arith, ltb-true g (64 * length ws) z) | inr z ↦ clash (bitAt ws g) bit (past ws g (ltb-false g (64 * length ws) z)) ]
+        inside = elim (decide (ltb g (64 * length ws))) [ inl z ↦ omega (arith, ltb-true g (64 * length ws) z) | inr z ↦ clash (lowBitAt ws g) bit (past ws g (ltb-false g (64 * length ws) z)) ]
 
         none : (t : Bool) → false ≡ (t && false)
         none true = refl
@@ -164,7 +164,7 @@ notAsking-is f ws = cases (has (fragmentsOf ws) f) refl
         go zero = frag-zero (turned g ws) ∙ none (not (eqb (suc g) 0)) ∙ ap (λ (t : Bool). not (eqb (suc g) 0) && t) (sym (frag-zero ws)) ∙ sym (has-only (λ m. not (eqb (suc g) m)) (fragmentsOf ws) 0)
         go (suc p) =
             frag-at (turned g ws) p ∙ turned-bit g p ws inside bit
-            ∙ ap (λ (t : Bool). not t && bitAt ws p) (sym (eqb-suc g p))
+            ∙ ap (λ (t : Bool). not t && lowBitAt ws p) (sym (eqb-suc g p))
             ∙ ap (λ (t : Bool). not (eqb (suc g) (suc p)) && t) (sym (frag-at ws p))
             ∙ sym (has-only (λ m. not (eqb (suc g) m)) (fragmentsOf ws) (suc p))
 
@@ -189,9 +189,9 @@ pub step-bit : (q j : ℕ) → q / 2 ^ suc j % 2 ≡ q / 2 / 2 ^ j % 2
 step-bit q j = ap (λ (x : ℕ). x % 2) (ap (λ (x : ℕ). q / x) (pow-succ' 2 j) ∙ sym (div-div-eq-div-mul q 2 (2 ^ j)))
 
 -- ---- word by word
-pub word-none : (ws : List ℕ) (i p : ℕ) → _≡_ {A = ℕ} (getD ws i 0) 0 → p / 64 ≡ i → bitAt ws p ≡ false
+pub word-none : (ws : List ℕ) (i p : ℕ) → _≡_ {A = ℕ} (getD ws i 0) 0 → p / 64 ≡ i → lowBitAt ws p ≡ false
 word-none ws i p e h =
-    ap (λ (j : ℕ). bitOf (getD ws j 0) (p % 64)) h ∙ ap (λ (w : ℕ). bitOf w (p % 64)) e ∙ zero-bit (p % 64)
+    ap (λ (j : ℕ). lowBitOf (getD ws j 0) (p % 64)) h ∙ ap (λ (w : ℕ). lowBitOf w (p % 64)) e ∙ zero-bit (p % 64)
 
 split : (i k : ℕ) → k < 64 → (64 * i + k) / 64 ≡ i
 split i k h = omega arith
@@ -199,8 +199,8 @@ split i k h = omega arith
 rest : (i k : ℕ) → k < 64 → (64 * i + k) % 64 ≡ k
 rest i k h = omega arith
 
-pub bit-in : (ws : List ℕ) (i k : ℕ) → k < 64 → bitAt ws (64 * i + k) ≡ bitOf (getD ws i 0) k
-bit-in ws i k h = ap (λ (j : ℕ). bitOf (getD ws j 0) ((64 * i + k) % 64)) (split i k h) ∙ ap (λ (j : ℕ). bitOf (getD ws i 0) j) (rest i k h)
+pub bit-in : (ws : List ℕ) (i k : ℕ) → k < 64 → lowBitAt ws (64 * i + k) ≡ lowBitOf (getD ws i 0) k
+bit-in ws i k h = ap (λ (j : ℕ). lowBitOf (getD ws j 0) ((64 * i + k) % 64)) (split i k h) ∙ ap (λ (j : ℕ). lowBitOf (getD ws i 0) j) (rest i k h)
 
 -- ---- words are their bits
 -- one digit
@@ -214,7 +214,7 @@ digit a b e = go (eqb (a % 2) 1) refl (sym e)
         zero-digit : (x : ℕ) → (x % 2 ≡ 1 → ⊥) → x % 2 ≡ 0
         zero-digit x d = omega arith
 
-pub word-unique : (d a b : ℕ) → a < 2 ^ d → b < 2 ^ d → ((j : ℕ) → j < d → bitOf a j ≡ bitOf b j) → a ≡ b
+pub word-unique : (d a b : ℕ) → a < 2 ^ d → b < 2 ^ d → ((j : ℕ) → j < d → lowBitOf a j ≡ lowBitOf b j) → a ≡ b
 word-unique zero a b ha hb e = omega arith
 word-unique (suc d) a b ha hb e =
     let low : a % 2 ≡ b % 2 = digit a b (sym (ap (λ (x : ℕ). eqb (x % 2) 1) (div-one a)) ∙ e 0 (omega arith) ∙ ap (λ (x : ℕ). eqb (x % 2) 1) (div-one b)) in
@@ -248,7 +248,7 @@ zeros-empty ws h = none-empty (fragmentsOf ws) go
     go zero = frag-zero ws
     go (suc p) = frag-at ws p ∙ pick (decide (ltb p (64 * length ws)))
       where
-        pick : (ltb p (64 * length ws) ≡ true) ⊎ (ltb p (64 * length ws) ≡ false) → bitAt ws p ≡ false
+        pick : (ltb p (64 * length ws) ≡ true) ⊎ (ltb p (64 * length ws) ≡ false) → lowBitAt ws p ≡ false
         pick (inl z) = word-none ws (p / 64) p (h (p / 64) (omega (arith, ltb-true p (64 * length ws) z))) refl
         pick (inr z) = past ws p (ltb-false p (64 * length ws) z)
 
@@ -267,7 +267,7 @@ asked-place ws f e = (lo, inside (decide (ltb (f - 1) (64 * length ws))))
 
     inside : (ltb (f - 1) (64 * length ws) ≡ true) ⊎ (ltb (f - 1) (64 * length ws) ≡ false) → (f - 1) / 64 < length ws
     inside (inl z) = omega (arith, ltb-true (f - 1) (64 * length ws) z)
-    inside (inr z) = clash (bitAt ws (f - 1)) (sym (frag-of ws f lo) ∙ e) (past ws (f - 1) (ltb-false (f - 1) (64 * length ws) z))
+    inside (inr z) = clash (lowBitAt ws (f - 1)) (sym (frag-of ws f lo) ∙ e) (past ws (f - 1) (ltb-false (f - 1) (64 * length ws) z))
 
 pub notAsking-length : (f : ℕ) (ws : List ℕ) → length (notAsking f ws) ≡ length ws
 notAsking-length f ws = go (has (fragmentsOf ws) f)

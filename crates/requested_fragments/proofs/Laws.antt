@@ -11,12 +11,12 @@ use borrow.Author.Tests.{le-leb, lt-leb, eq-eqb, ne-eqb}
 use Rattle.sets.specs.Sets.{empty}
 use Rattle.sets.proofs.Bools.{and-no}
 use Rattle.numbers.specs.Promise.{Gives1, Gives2}
-use Rattle.rising.specs.Runs.{zeros, runOk, over, inRoom}
+use Rattle.rising.specs.Runs.{zeros, runCoherent, over, inRoom}
 use Rattle.rising.proofs.Meaning.{run-is}
 use Rattle.requested_fragments.specs.declared.table.NextPiece.{NextPiece}
 use Rattle.requested_fragments.specs.Words.{nextIn}
 use Rattle.requested_fragments.specs.Entries.{nextSample, nextFragment}
-use Rattle.requested_fragments.specs.Table.{Block, tableOf, entriesOf, allHold, coherentRooms, samplesIn, wordsIn, markT, askT, holding, same, fits, markedIn, askedIn, nextOf}
+use Rattle.requested_fragments.specs.Table.{Block, tableOf, entriesOf, allHold, fragRoomsCoherent, samplesIn, wordsIn, markT, askT, roomsHolding, same, roomsHold, markedIn, askedIn, nextPieceOf}
 
 -- what a cut leaves, where the run is in the room
 pub in-run : (f : List ℕ → List ℕ) (c : ℕ) (a : List ℕ) (r : ℕ) (u : List ℕ) → c ≤ length a → Gives1 r u (inRoom f c a) → (r ≡ length (f (take c a))) × (u ≡ over a c (f (take c a)))
@@ -26,24 +26,24 @@ in-run f c a r u h g =
 
 -- ---- the check
 module _ (count : ℕ) (S W : List ℕ) where
-  pub check-samples : 16 < length S → false ≡ coherentRooms count S W
+  pub check-samples : 16 < length S → false ≡ fragRoomsCoherent count S W
   check-samples h = rw (lt-leb (length S) 16 h)
 
   module _ (ls : length S ≤ 16) where
-    pub check-words : (length W ≡ length S * 64 → ⊥) → false ≡ coherentRooms count S W
+    pub check-words : (length W ≡ length S * 64 → ⊥) → false ≡ fragRoomsCoherent count S W
     check-words h = rw (le-leb (length S) 16 ls, ne-eqb (length W) (64 * length S) (λ e. h (omega arith)))
 
     module _ (lw : length W ≡ length S * 64) where
       long : eqb (length W) (64 * length S) ≡ true
       long = eq-eqb (length W) (64 * length S) (omega arith)
 
-      pub check-run : runOk 0 count S ≡ false → false ≡ coherentRooms count S W
+      pub check-run : runCoherent 0 count S ≡ false → false ≡ fragRoomsCoherent count S W
       check-run h = rw (le-leb (length S) 16 ls, long, h)
 
-      pub run-few : runOk 0 count S ≡ true → count ≤ length S
+      pub run-few : runCoherent 0 count S ≡ true → count ≤ length S
       run-few h = run-is 0 count S h .fits
 
-      pub check-rest : (a b : Bool) → runOk 0 count S ≡ true → a ≡ allHold count W → b ≡ zeros (take (length W - count * 64) (drop (count * 64) W)) → (a && b) ≡ coherentRooms count S W
+      pub check-rest : (a b : Bool) → runCoherent 0 count S ≡ true → a ≡ allHold count W → b ≡ zeros (take (length W - count * 64) (drop (count * 64) W)) → (a && b) ≡ fragRoomsCoherent count S W
       check-rest a b h p q =
           let t : count * 64 ≡ 64 * count = omega arith in
           let e : take (length W - count * 64) (drop (count * 64) W) ≡ drop (count * 64) W = take-all (length W - count * 64) (drop (count * 64) W) (rw length-drop (omega arith)) in
@@ -51,16 +51,16 @@ module _ (count : ℕ) (S W : List ℕ) where
 
 -- ---- marking
 module _ (count : ℕ) (S W : List ℕ) where
-  pub fit : count ≤ length S → 64 * count ≤ length W → fits count S W ≡ true
+  pub fit : count ≤ length S → 64 * count ≤ length W → roomsHold count S W ≡ true
   fit hs hw = rw (le-leb count (length S) hs, le-leb (64 * count) (length W) hw) refl
 
-  pub short-samples : length S < count → fits count S W ≡ false
+  pub short-samples : length S < count → roomsHold count S W ≡ false
   short-samples h = rw (lt-leb count (length S) h) refl
 
-  pub short-words : length W / 64 < count → fits count S W ≡ false
+  pub short-words : length W / 64 < count → roomsHold count S W ≡ false
   short-words h = rw (lt-leb (64 * count) (length W) (omega arith)) (and-no (leb count (length S)))
 
-  pub marked-same : (n f : ℕ) → fits count S W ≡ false → Gives2 count S W (markedIn n f count S W)
+  pub marked-same : (n f : ℕ) → roomsHold count S W ≡ false → Gives2 count S W (markedIn n f count S W)
   marked-same n f h = rw h (record { result = refl; first = refl; second = refl })
 
   pub marked-done : (n f r : ℕ) (U Z : List ℕ) → count ≤ length S → 64 * count ≤ length W
@@ -69,15 +69,15 @@ module _ (count : ℕ) (S W : List ℕ) where
   marked-done n f r U Z hs hw g = rw (fit hs hw) (record { result = g .0; first = g .1; second = g .2 })
 
   -- ---- the next fragment
-  pub next-nothing : (f : ℕ) → (count ≡ 0 → ⊥) → length S ≡ 0 → record { none = true; sample = 0; fragment = 0 } ≡ nextOf f (entriesOf count S W)
+  pub next-nothing : (f : ℕ) → (count ≡ 0 → ⊥) → length S ≡ 0 → record { none = true; sample = 0; fragment = 0 } ≡ nextPieceOf f (entriesOf count S W)
   next-nothing f d h = go count S h
     where
-      go : (c : ℕ) (s : List ℕ) → length s ≡ 0 → record { none = true; sample = 0; fragment = 0 } ≡ nextOf f (entriesOf c s W)
+      go : (c : ℕ) (s : List ℕ) → length s ≡ 0 → record { none = true; sample = 0; fragment = 0 } ≡ nextPieceOf f (entriesOf c s W)
       go zero s e = refl
       go (suc c) [] e = refl
       go (suc c) (x ∷ xs) e = absurd (omega arith)
 
-  pub next-empty : (f : ℕ) → count ≡ 0 → record { none = true; sample = 0; fragment = 0 } ≡ nextOf f (entriesOf count S W)
+  pub next-empty : (f : ℕ) → count ≡ 0 → record { none = true; sample = 0; fragment = 0 } ≡ nextPieceOf f (entriesOf count S W)
   next-empty f e = rw e refl
 
   head-of : (f : ℕ) → (count ≡ 0 → ⊥) → (length S ≡ 0 → ⊥) → (nextSample (entriesOf count S W) ≡ getD S 0 0) × (nextFragment f (entriesOf count S W) ≡ nextIn f (take 64 W))
@@ -92,8 +92,8 @@ module _ (count : ℕ) (S W : List ℕ) where
     found : nextFragment f (entriesOf count S W) ≡ k
     found = head-of f c s .1 ∙ sym e
 
-    pub next-none : k ≡ 0 → record { none = true; sample = 0; fragment = 0 } ≡ nextOf f (entriesOf count S W)
+    pub next-none : k ≡ 0 → record { none = true; sample = 0; fragment = 0 } ≡ nextPieceOf f (entriesOf count S W)
     next-none z = rw (found, z) refl
 
-    pub next-some : (k ≡ 0 → ⊥) → record { none = false; sample = getD S 0 0; fragment = k } ≡ nextOf f (entriesOf count S W)
+    pub next-some : (k ≡ 0 → ⊥) → record { none = false; sample = getD S 0 0; fragment = k } ≡ nextPieceOf f (entriesOf count S W)
     next-some z = rw (found, ne-eqb k 0 z, head-of f c s .0) refl

@@ -14,25 +14,25 @@ use Rattle.sets.proofs.Bools.{or-right, or-swap, or-assoc}
 use Rattle.sets.proofs.Ext.{ext, union-nil}
 use Rattle.requested_fragments.specs.Words.{fragmentsOf, asking, notAsking}
 use Rattle.requested_fragments.proofs.Frags.{notAsking-is, asking-is, asking-length, frag-rises, zeros-empty}
-use Rattle.requested_fragments.specs.Entries.{Entry, keep, sent, asked}
-use Rattle.requested_fragments.specs.Table.{Block, blocksOf, keepBlock, markT, view, askT, askAll}
+use Rattle.requested_fragments.specs.Entries.{Entry, keep, sent, requestedSome}
+use Rattle.requested_fragments.specs.Table.{Block, blocksOf, keepBlock, markT, blocksView, askT, askAll}
 
-view-keep : (b : Block) (bs : List Block) → view (keepBlock b bs) ≡ keep (record { sample = b .sample; frags = fragmentsOf (b .words) }) (view bs)
+view-keep : (b : Block) (bs : List Block) → blocksView (keepBlock b bs) ≡ keep (record { sample = b .sample; frags = fragmentsOf (b .words) }) (blocksView bs)
 view-keep b bs = go (empty (fragmentsOf (b .words)))
   where
-    go : (t : Bool) → view (cond t bs (b ∷ bs)) ≡ cond t (view bs) (record { sample = b .sample; frags = fragmentsOf (b .words) } ∷ view bs)
+    go : (t : Bool) → blocksView (cond t bs (b ∷ bs)) ≡ cond t (blocksView bs) (record { sample = b .sample; frags = fragmentsOf (b .words) } ∷ blocksView bs)
     go true = refl
     go false = refl
 
 -- marking a fragment sent, on the table, is marking it sent
-pub mark-means : (n f : ℕ) (t : List Block) → view (markT n f t) ≡ sent n f (view t)
+pub mark-means : (n f : ℕ) (t : List Block) → blocksView (markT n f t) ≡ sent n f (blocksView t)
 mark-means n f [] = refl
 mark-means n f (b ∷ bs) = go (eqb (b .sample) n) (mark-means n f bs)
   where
-    go : (t : Bool) → view (markT n f bs) ≡ sent n f (view bs)
-        → view (cond t (keepBlock (record { sample = b .sample; words = notAsking f (b .words) }) bs) (b ∷ markT n f bs))
-        ≡ cond t (keep (record { sample = b .sample; frags = without f (fragmentsOf (b .words)) }) (view bs)) (record { sample = b .sample; frags = fragmentsOf (b .words) } ∷ sent n f (view bs))
-    go true r = view-keep (record { sample = b .sample; words = notAsking f (b .words) }) bs ∙ ap (λ (l : List ℕ). keep (record { sample = b .sample; frags = l }) (view bs)) (notAsking-is f (b .words))
+    go : (t : Bool) → blocksView (markT n f bs) ≡ sent n f (blocksView bs)
+        → blocksView (cond t (keepBlock (record { sample = b .sample; words = notAsking f (b .words) }) bs) (b ∷ markT n f bs))
+        ≡ cond t (keep (record { sample = b .sample; frags = without f (fragmentsOf (b .words)) }) (blocksView bs)) (record { sample = b .sample; frags = fragmentsOf (b .words) } ∷ sent n f (blocksView bs))
+    go true r = view-keep (record { sample = b .sample; words = notAsking f (b .words) }) bs ∙ ap (λ (l : List ℕ). keep (record { sample = b .sample; frags = l }) (blocksView bs)) (notAsking-is f (b .words))
     go false r = ap (λ (l : List Entry). record { sample = b .sample; frags = fragmentsOf (b .words) } ∷ l) r
 
 -- ---- asking
@@ -82,14 +82,14 @@ module _ (n : ℕ) (ms : List ℕ) (g : From 1 ms) (h : Within ms 64) where
   made : shown (record { sample = n; words = askAll ms (replicate 64 0) }) ≡ record { sample = n; frags = ms }
   made = ap (λ (l : List ℕ). record { sample = n; frags = l }) (askAll-new 64 ms g h)
 
-  pub ask-means : (t : List Block) → Full t → view (askT n ms t) ≡ asked n ms (view t)
+  pub ask-means : (t : List Block) → Full t → blocksView (askT n ms t) ≡ requestedSome n ms (blocksView t)
   ask-means [] f = ap (λ (e : Entry). e ∷ []) made
   ask-means (b ∷ bs) f = go (leb n (b .sample)) refl (eqb (b .sample) n) refl (ask-means bs (f .1))
     where
-      go : (x : Bool) → leb n (b .sample) ≡ x → (y : Bool) → eqb (b .sample) n ≡ y → view (askT n ms bs) ≡ asked n ms (view bs)
-          → view (cond x (cond y (record { sample = b .sample; words = askAll ms (b .words) } ∷ bs) (record { sample = n; words = askAll ms (replicate 64 0) } ∷ b ∷ bs)) (b ∷ askT n ms bs))
-          ≡ cond y (record { sample = b .sample; frags = union ms (fragmentsOf (b .words)) } ∷ view bs) (cond x (record { sample = n; frags = ms } ∷ shown b ∷ view bs) (shown b ∷ asked n ms (view bs)))
-      go true p true q r = ap (λ (l : List ℕ). record { sample = b .sample; frags = l } ∷ view bs) (askAll-is ms (b .words) (subst (Within ms) (sym (f .0)) h))
-      go true p false q r = ap (λ (e : Entry). e ∷ shown b ∷ view bs) made
+      go : (x : Bool) → leb n (b .sample) ≡ x → (y : Bool) → eqb (b .sample) n ≡ y → blocksView (askT n ms bs) ≡ requestedSome n ms (blocksView bs)
+          → blocksView (cond x (cond y (record { sample = b .sample; words = askAll ms (b .words) } ∷ bs) (record { sample = n; words = askAll ms (replicate 64 0) } ∷ b ∷ bs)) (b ∷ askT n ms bs))
+          ≡ cond y (record { sample = b .sample; frags = union ms (fragmentsOf (b .words)) } ∷ blocksView bs) (cond x (record { sample = n; frags = ms } ∷ shown b ∷ blocksView bs) (shown b ∷ requestedSome n ms (blocksView bs)))
+      go true p true q r = ap (λ (l : List ℕ). record { sample = b .sample; frags = l } ∷ blocksView bs) (askAll-is ms (b .words) (subst (Within ms) (sym (f .0)) h))
+      go true p false q r = ap (λ (e : Entry). e ∷ shown b ∷ blocksView bs) made
       go false p true q r = absurd (omega (arith, leb-false n (b .sample) p, eqb-true (b .sample) n q))
       go false p false q r = ap (λ (l : List Entry). shown b ∷ l) r

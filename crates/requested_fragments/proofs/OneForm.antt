@@ -15,7 +15,7 @@ use Rattle.requested_fragments.proofs.Frags.{words-unique}
 use Rattle.rising.specs.Runs.{over, roomOf}
 use Rattle.rising.proofs.Rooms.{room-same}
 use Rattle.requested_fragments.specs.Entries.{Entry}
-use Rattle.requested_fragments.specs.Table.{Block, blocksOf, samplesIn, wordsIn, view, tableOf}
+use Rattle.requested_fragments.specs.Table.{Block, blocksOf, samplesIn, wordsIn, blocksView, tableOf}
 use Rattle.requested_fragments.proofs.Blocks.{samples-of, words-of, length-of}
 use Rattle.requested_fragments.proofs.Coherent.{Coherent}
 use Rattle.requested_fragments.proofs.Meaning.{Full}
@@ -51,12 +51,12 @@ heads e d es ds q = (ap (λ (x : Entry). x .sample) p, ap (λ (x : Entry). x .fr
     p : e ≡ d
     p = cc
 
-pub tables : (t u : List Block) → Full t → Full u → Bounded t → Bounded u → view t ≡ view u → t ≡ u
+pub tables : (t u : List Block) → Full t → Full u → Bounded t → Bounded u → blocksView t ≡ blocksView u → t ≡ u
 tables [] [] f g h k e = refl
 tables [] (u ∷ us) f g h k e = let z : _≡_ {A = ℕ} 0 1 = cc in absurd (omega arith)
 tables (t ∷ ts) [] f g h k e = let z : _≡_ {A = ℕ} 0 1 = cc in absurd (omega arith)
 tables (t ∷ ts) (u ∷ us) f g h k e =
-    let q = heads (record { sample = t .sample; frags = fragmentsOf (t .words) }) (record { sample = u .sample; frags = fragmentsOf (u .words) }) (view ts) (view us) e in
+    let q = heads (record { sample = t .sample; frags = fragmentsOf (t .words) }) (record { sample = u .sample; frags = fragmentsOf (u .words) }) (blocksView ts) (blocksView us) e in
     let w : t .words ≡ u .words = words-unique (t .words) (u .words) (f .0 ∙ sym (g .0)) (h .0) (k .0) (q .1) in
     let r : ts ≡ us = tables ts us (f .1) (g .1) (h .1) (k .1) (q .2) in
     ap (λ (x : ℕ). record { sample = x; words = t .words } ∷ ts) (q .0) ∙ ap (λ (x : List ℕ). record { sample = u .sample; words = x } ∷ ts) w ∙ ap (λ (x : List Block). u ∷ x) r
@@ -71,7 +71,7 @@ is-form c S W k =
       room-same (64 * c) W (omega (arith, k .small, k .lengthW)) ∙ ap (over W (64 * c)) (sym (words-of (take c S) W ∙ ap (λ (x : ℕ). take (64 * x) W) l)) ∙ q .1,
     )
 
-pub one-form : (c d : ℕ) (S W X Y : List ℕ) → Coherent c S W → Coherent d X Y → length S ≡ length X → Words W → Words Y → view (tableOf c S W) ≡ view (tableOf d X Y) → (c ≡ d) × (S ≡ X) × (W ≡ Y)
+pub one-form : (c d : ℕ) (S W X Y : List ℕ) → Coherent c S W → Coherent d X Y → length S ≡ length X → Words W → Words Y → blocksView (tableOf c S W) ≡ blocksView (tableOf d X Y) → (c ≡ d) × (S ≡ X) × (W ≡ Y)
 one-form c d S W X Y h k l hw hy e =
     let t : tableOf c S W ≡ tableOf d X Y = tables (tableOf c S W) (tableOf d X Y) (coherent-fit c S W h .full) (coherent-fit d X Y k .full) (bounded (take c S) W hw) (bounded (take d X) Y hy) e in
     let a = is-form c S W h in

@@ -13,7 +13,7 @@ use Rattle.sets.proofs.Bools.{and-no}
 use Rattle.numbers.specs.Promise.{Gives1, Gives2}
 use Rattle.rising.specs.Runs.{placeOf, holdsAt, putIn, over, inRoom, insertWithin}
 use Rattle.rising.proofs.Inserts.{insert-new, put-length}
-use Rattle.requested_fragments.specs.Table.{Block, tableOf, samplesIn, wordsIn, askT, askAll, fits, same, holding, askedIn}
+use Rattle.requested_fragments.specs.Table.{Block, tableOf, samplesIn, wordsIn, askT, askAll, roomsHold, same, roomsHolding, askedIn}
 use Rattle.requested_fragments.proofs.Laws.{in-run, fit, short-samples, short-words}
 use Rattle.requested_fragments.proofs.Joined.{join-law, fresh-law, new-length, place-in}
 
@@ -26,14 +26,14 @@ module _ (n count : ℕ) (ms S W : List ℕ) where
   abbrev T : List Block
   T = tableOf count S W
 
-  unchanged : (fits count S W && (not (empty ms) && fits (length (askT n ms T)) S W)) ≡ false → Gives2 count S W (askedIn n ms count S W)
+  unchanged : (roomsHold count S W && (not (empty ms) && roomsHold (length (askT n ms T)) S W)) ≡ false → Gives2 count S W (askedIn n ms count S W)
   unchanged h = rw h (record { result = refl; first = refl; second = refl })
 
-  pub asked-unfit : fits count S W ≡ false → Gives2 count S W (askedIn n ms count S W)
-  asked-unfit h = unchanged (ap (λ (t : Bool). t && (not (empty ms) && fits (length (askT n ms T)) S W)) h)
+  pub asked-unfit : roomsHold count S W ≡ false → Gives2 count S W (askedIn n ms count S W)
+  asked-unfit h = unchanged (ap (λ (t : Bool). t && (not (empty ms) && roomsHold (length (askT n ms T)) S W)) h)
 
   pub asked-nothing : empty ms ≡ true → Gives2 count S W (askedIn n ms count S W)
-  asked-nothing h = unchanged (ap (λ (t : Bool). fits count S W && (not t && fits (length (askT n ms T)) S W)) h ∙ and-no (fits count S W))
+  asked-nothing h = unchanged (ap (λ (t : Bool). roomsHold count S W && (not t && roomsHold (length (askT n ms T)) S W)) h ∙ and-no (roomsHold count S W))
 
   module _ (hs : count ≤ length S) (hw : 64 * count ≤ length W) (some : empty ms ≡ false) (e : ℕ) (g : e ≡ placeOf n (take count S)) where
     ls : length (take count S) ≡ count
@@ -48,18 +48,18 @@ module _ (n count : ℕ) (ms S W : List ℕ) where
     done : (r : ℕ) (U Z : List ℕ) → r ≤ length S → 64 * r ≤ length W → (r ≡ length (askT n ms T)) × (U ≡ over S count (samplesIn (askT n ms T))) × (Z ≡ over W (64 * count) (wordsIn (askT n ms T)))
         → Gives2 r U Z (askedIn n ms count S W)
     done r U Z a b q =
-        let t : (fits count S W && (not (empty ms) && fits (length (askT n ms T)) S W)) ≡ true =
-        rw (fit count S W hs hw, some) (ap (λ (k : ℕ). fits k S W) (sym (q .0)) ∙ fit r S W a b) in
+        let t : (roomsHold count S W && (not (empty ms) && roomsHold (length (askT n ms T)) S W)) ≡ true =
+        rw (fit count S W hs hw, some) (ap (λ (k : ℕ). roomsHold k S W) (sym (q .0)) ∙ fit r S W a b) in
         rw t (record { result = q .0; first = q .1; second = q .2 })
 
     pub asked-held : (Z : List ℕ) → holdsAt n (take count S) e ≡ true → Z ≡ take (e * 64) W ++ (askAll ms (take 64 (drop (e * 64) W)) ++ drop (e * 64 + 64) W) → Gives2 count S Z (askedIn n ms count S W)
     asked-held Z h w = done count S Z hs hw (join-law n count ms S W hs hw e g Z h (inside h) w)
 
-    full : fits (count + 1) S W ≡ false → holdsAt n (take count S) e ≡ false → Gives2 count S W (askedIn n ms count S W)
+    full : roomsHold (count + 1) S W ≡ false → holdsAt n (take count S) e ≡ false → Gives2 count S W (askedIn n ms count S W)
     full k h =
-        unchanged (ap (λ (x : ℕ). fits count S W && (not (empty ms) && fits x S W)) (new-length n count ms S W hs hw e g h)
-        ∙ ap (λ (t : Bool). fits count S W && (not (empty ms) && t)) k
-        ∙ ap (λ (t : Bool). fits count S W && t) (and-no (not (empty ms))) ∙ and-no (fits count S W))
+        unchanged (ap (λ (x : ℕ). roomsHold count S W && (not (empty ms) && roomsHold x S W)) (new-length n count ms S W hs hw e g h)
+        ∙ ap (λ (t : Bool). roomsHold count S W && (not (empty ms) && t)) k
+        ∙ ap (λ (t : Bool). roomsHold count S W && t) (and-no (not (empty ms))) ∙ and-no (roomsHold count S W))
 
     pub asked-full : length S ≤ count → holdsAt n (take count S) e ≡ false → Gives2 count S W (askedIn n ms count S W)
     asked-full k h = full (short-samples (count + 1) S W (omega arith)) h

@@ -9,9 +9,9 @@ use Rattle.sets.specs.Sets.{From, has, empty}
 use Rattle.requested_fragments.specs.Entries.{Entry, sent, nextSample, nextFragment}
 
 -- samples that rise from s on, each with fragments that rise from 1 on, and at least one
-abbrev pub Sound : ℕ → List Entry → Type 0
-Sound s [] = Unit {0}
-Sound s (e ∷ es) = (s ≤ e .sample) × (From 1 (e .frags) × ((empty (e .frags) ≡ false) × Sound (suc (e .sample)) es))
+abbrev pub EntriesCoherent : ℕ → List Entry → Type 0
+EntriesCoherent s [] = Unit {0}
+EntriesCoherent s (e ∷ es) = (s ≤ e .sample) × (From 1 (e .frags) × ((empty (e .frags) ≡ false) × EntriesCoherent (suc (e .sample)) es))
 
 -- one fragment of one sample
 pub record Piece : Type 0 where
@@ -28,14 +28,14 @@ allAsked [] = []
 allAsked (e ∷ es) = piecesOf (e .sample) (e .frags) ++ allAsked es
 
 -- a run of at most k turns of 'next fragment from 1, mark it sent': what it offered, and what is left
-pub record Run : Type 0 where
+pub record DrainRun : Type 0 where
   pub offered : List Piece
   pub left : List Entry
 
-abbrev pub offering : Piece → Run → Run
+abbrev pub offering : Piece → DrainRun → DrainRun
 offering p r = record { offered = p ∷ r .offered; left = r .left }
 
-abbrev pub turns : ℕ → List Entry → Run
+abbrev pub turns : ℕ → List Entry → DrainRun
 turns zero es = record { offered = []; left = es }
 turns (suc k) es =
     cond (eqb (nextFragment 1 es) 0)

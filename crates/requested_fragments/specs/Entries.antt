@@ -18,16 +18,16 @@ abbrev pub keep : Entry → List Entry → List Entry
 keep e es = cond (empty (e .frags)) es (e ∷ es)
 
 -- "A request sets bits for one sample"
-abbrev pub asked : ℕ → List ℕ → List Entry → List Entry
-asked n ms [] = entry n ms ∷ []
-asked n ms (e ∷ es) =
+abbrev pub requestedSome : ℕ → List ℕ → List Entry → List Entry
+requestedSome n ms [] = entry n ms ∷ []
+requestedSome n ms (e ∷ es) =
     cond (eqb (e .sample) n)
     (entry (e .sample) (union ms (e .frags)) ∷ es)
-    (cond (leb n (e .sample)) (entry n ms ∷ e ∷ es) (e ∷ asked n ms es))
+    (cond (leb n (e .sample)) (entry n ms ∷ e ∷ es) (e ∷ requestedSome n ms es))
 
 -- "An empty request makes no entry"
 abbrev pub requested : ℕ → List ℕ → List Entry → List Entry
-requested n ms es = cond (empty ms) es (asked n ms es)
+requested n ms es = cond (empty ms) es (requestedSome n ms es)
 
 -- "Marking one sent clears its bit and drops an entry left empty; not requested, whatever its number: nothing changes"
 abbrev pub sent : ℕ → ℕ → List Entry → List Entry

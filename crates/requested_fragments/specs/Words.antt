@@ -9,16 +9,16 @@ use lib.Bits.{bitOr, bitXor}
 use Rattle.sets.specs.Sets.{has, only, those, firstOr}
 
 -- bit k of a word
-abbrev pub bitOf : ℕ → ℕ → Bool
-bitOf w k = eqb (w / 2 ^ k % 2) 1
+abbrev pub lowBitOf : ℕ → ℕ → Bool
+lowBitOf w k = eqb (w / 2 ^ k % 2) 1
 
 -- the bit at place p, from 0 on
-abbrev pub bitAt : List ℕ → ℕ → Bool
-bitAt ws p = bitOf (getD ws (p / 64) 0) (p % 64)
+abbrev pub lowBitAt : List ℕ → ℕ → Bool
+lowBitAt ws p = lowBitOf (getD ws (p / 64) 0) (p % 64)
 
 -- the fragments asked for, as a rising list
 abbrev pub fragmentsOf : List ℕ → List ℕ
-fragmentsOf ws = those (64 * length ws) 1 (λ f. bitAt ws (f - 1))
+fragmentsOf ws = those (64 * length ws) 1 (λ f. lowBitAt ws (f - 1))
 
 -- the words with fragment f asked for; a number that they have no bit for changes nothing
 abbrev pub asking : ℕ → List ℕ → List ℕ

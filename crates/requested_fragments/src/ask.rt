@@ -10,6 +10,7 @@ ghost use Rattle.rising.specs.Runs.{over};
 ghost use Rattle.requested_fragments.specs.Table.{askAll, askable, askedIn};
 use crate::bits;
 use number_sets::FragmentNumberSet;
+use numbers::FragmentNumber;
 
 // All members of the set that can be asked for, in one block.
 fn ask_all(words: &mut [u64], set: FragmentNumberSet)
@@ -17,7 +18,7 @@ fn ask_all(words: &mut [u64], set: FragmentNumberSet)
 {
     let mut from: u64 = 1;
     loop {
-        let next = set.next_rank(from, 4096);
+        let next = set.next_rank(from, FragmentNumber::TOP);
         if next.none {
             return;
         }
@@ -32,7 +33,7 @@ fn ask_block(words: &mut [u64], a: usize, set: FragmentNumberSet)
     requires { ⌜ a + 64 ≤ length (now words) ⌝ }
     ensures { λ r. ⌜ now (words .exit) ≡ take a (now (words .entry)) ++ (askAll (askable set) (take 64 (drop a (now (words .entry)))) ++ drop (a + 64) (now (words .entry))) ⌝ }
 {
-    let e = a + 64;
+    let e = a + FragmentNumber::WORDS;
     ask_all(&mut words[a..e], set);
 }
 
@@ -41,7 +42,7 @@ fn new_block(words: &mut [u64], end: usize, a: usize, set: FragmentNumberSet)
     requires { ⌜ (a ≤ end) × (end + 64 ≤ length (now words)) ⌝ }
     ensures { λ r. ⌜ now (words .exit) ≡ over (now (words .entry)) end (take a (take end (now (words .entry))) ++ (askAll (askable set) (replicate 64 0) ++ drop a (take end (now (words .entry))))) ⌝ }
 {
-    rising::room::open(words, end, a, 64);
+    rising::room::open(words, end, a, FragmentNumber::WORDS);
     ask_block(words, a, set);
 }
 
@@ -57,7 +58,7 @@ fn request_some(
     ensures { λ r. ⌜ Gives2 r (now (samples .exit)) (now (words .exit)) (askedIn n (askable set) count (now (samples .entry)) (now (words .entry))) ⌝ }
 {
     let e = rising::run::place(&samples[..count], n);
-    let a = e * 64;
+    let a = e * FragmentNumber::WORDS;
     if rising::run::holds_at(&samples[..count], e, n) {
         ask_block(words, a, set);
         return count;
@@ -65,10 +66,10 @@ fn request_some(
     if samples.len() <= count {
         return count;
     }
-    if words.len() / 64 <= count {
+    if words.len() / FragmentNumber::WORDS <= count {
         return count;
     }
-    let end = count * 64;
+    let end = count * FragmentNumber::WORDS;
     new_block(words, end, a, set);
     rising::room::insert(samples, count, n)
 }
@@ -86,10 +87,10 @@ pub fn request(
     if samples.len() < count {
         return count;
     }
-    if words.len() / 64 < count {
+    if words.len() / FragmentNumber::WORDS < count {
         return count;
     }
-    let first = set.next_rank(1, 4096);
+    let first = set.next_rank(1, FragmentNumber::TOP);
     if first.none {
         return count;
     }

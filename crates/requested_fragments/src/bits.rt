@@ -5,6 +5,7 @@ ghost use Prim.Native.Nat.{_^_, _<_, _≤_};
 ghost use lib.ListN.{length, take};
 ghost use Rattle.sets.specs.Sets.{has, empty};
 ghost use Rattle.requested_fragments.specs.Words.{fragmentsOf, asking, notAsking, nextIn};
+use numbers::FragmentNumber;
 
 fn worth(k: u64) -> u64
     requires { ⌜ k < 64 ⌝ }
@@ -75,7 +76,7 @@ fn search_bits(words: &[u64], f: u64) -> u64
     ensures { λ r. ⌜ r ≡ nextIn f (now (words .entry)) ⌝ }
 {
     let mut n = f;
-    while n <= 4096 {
+    while n <= FragmentNumber::TOP {
         if asks(words, n) {
             return n;
         }
@@ -88,6 +89,6 @@ fn search_bits(words: &[u64], f: u64) -> u64
 pub fn next(words: &[u64], f: u64) -> u64
     ensures { λ r. ⌜ r ≡ nextIn f (take 64 (now (words .entry))) ⌝ }
 {
-    let end = numbers::arith::smaller(64, words.len());
+    let end = numbers::arith::smaller(FragmentNumber::WORDS, words.len());
     search_bits(&words[..end], f)
 }

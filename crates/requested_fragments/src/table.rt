@@ -7,9 +7,13 @@ ghost use lib.ListN.{length, take, drop};
 ghost use Rattle.sets.specs.Sets.{empty};
 ghost use Rattle.numbers.specs.Promise.{Gives2};
 ghost use Rattle.requested_fragments.specs.Words.{fragmentsOf, notAsking};
-ghost use Rattle.requested_fragments.specs.Table.{coherentRooms, allHold, tableOf, entriesOf, markT, holding, markedIn, nextOf};
+ghost use Rattle.requested_fragments.specs.Table.{fragRoomsCoherent, allHold, tableOf, entriesOf, markT, roomsHolding, markedIn, nextPieceOf};
 ghost use Rattle.requested_fragments.specs.Find.{indexOf};
 use crate::bits;
+use numbers::FragmentNumber;
+
+// The most samples with requested fragments.
+pub const MOST_SAMPLES: usize = 16;
 
 // A fragment of a sample, unless there is none.
 pub struct NextPiece {
@@ -26,8 +30,8 @@ fn all_hold(words: &[u64], count: usize) -> bool
     let mut good = true;
     let mut i = 0;
     while i < count {
-        let a = i * 64;
-        let e = a + 64;
+        let a = i * FragmentNumber::WORDS;
+        let e = a + FragmentNumber::WORDS;
         good = good & bits::any(&words[a..e]);
         i += 1;
     }
@@ -36,18 +40,18 @@ fn all_hold(words: &[u64], count: usize) -> bool
 
 // Whether the rooms are what a reader record's are, as far as they are lent: up to 16 samples, and 64 words for each.
 pub fn coherent(samples: &[u64], words: &[u64], count: usize) -> bool
-    ensures { λ r. ⌜ r ≡ coherentRooms count (now (samples .entry)) (now (words .entry)) ⌝ }
+    ensures { λ r. ⌜ r ≡ fragRoomsCoherent count (now (samples .entry)) (now (words .entry)) ⌝ }
 {
-    if 16 < samples.len() {
+    if MOST_SAMPLES < samples.len() {
         return false;
     }
-    if words.len() != samples.len() * 64 {
+    if words.len() != samples.len() * FragmentNumber::WORDS {
         return false;
     }
     if !rising::run::run_ok(samples, count, 0) {
         return false;
     }
-    let a = count * 64;
+    let a = count * FragmentNumber::WORDS;
     let held = all_hold(words, count);
     held & rising::run::all_zero(&words[a..])
 }
@@ -72,7 +76,7 @@ fn clear_at(words: &mut [u64], a: usize, f: u64) -> bool
     ensures { λ r. ⌜ (r ≡ not (empty (fragmentsOf (notAsking f (take 64 (drop a (now (words .entry))))))))
         × (now (words .exit) ≡ take a (now (words .entry)) ++ (notAsking f (take 64 (drop a (now (words .entry)))) ++ drop (a + 64) (now (words .entry)))) ⌝ }
 {
-    let e = a + 64;
+    let e = a + FragmentNumber::WORDS;
     bits::unask(&mut words[a..e], f);
     bits::any(&words[a..e])
 }
@@ -84,25 +88,25 @@ pub fn mark_sent(samples: &mut [u64], words: &mut [u64], count: usize, n: u64, f
     if samples.len() < count {
         return count;
     }
-    if words.len() / 64 < count {
+    if words.len() / FragmentNumber::WORDS < count {
         return count;
     }
     let e = find(&samples[..count], n);
     if count <= e {
         return count;
     }
-    let a = e * 64;
+    let a = e * FragmentNumber::WORDS;
     if clear_at(words, a, f) {
         return count;
     }
-    let end = count * 64;
-    rising::room::cut(words, end, a, 64);
+    let end = count * FragmentNumber::WORDS;
+    rising::room::cut(words, end, a, FragmentNumber::WORDS);
     rising::room::cut(samples, count, e, 1)
 }
 
 // The next fragment at or after f: the smallest of the smallest sample.
 pub fn next(samples: &[u64], words: &[u64], count: usize, f: u64) -> NextPiece
-    ensures { λ r. ⌜ r ≡ nextOf f (entriesOf count (now (samples .entry)) (now (words .entry))) ⌝ }
+    ensures { λ r. ⌜ r ≡ nextPieceOf f (entriesOf count (now (samples .entry)) (now (words .entry))) ⌝ }
 {
     if count == 0 {
         return NextPiece {

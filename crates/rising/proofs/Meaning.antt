@@ -10,13 +10,13 @@ use lib.Dec.{ltb, leb, eqb}
 use lib.ListN.{length, take, drop, replicate, length-take, length-drop, length-append, length-replicate, take-append-drop, replicate-append-replicate}
 use lib.Seq.{take-all, length-take-le, take-at, drop-at, drop-drop}
 use borrow.Author.Tests.{ltb-true, ltb-false, leb-true, leb-false, eqb-true, eqb-false, le-leb, lt-leb, lt-ltb, le-ltb, eq-eqb, ne-eqb}
-use Rattle.numbers.specs.Number.{topNumber}
+use Rattle.numbers.specs.Capacities.{topNumber}
 use Rattle.numbers.specs.Promise.{Left1, Gives1}
 use Rattle.sets.specs.Sets.{has, From, only, between, without, insert, union, smallest, largest}
 use Rattle.sets.proofs.Bools.{decide, and-left, and-right, and-both, clash, or-right}
 use Rattle.sets.proofs.Has.{From-low, From-weak, has-only, has-insert, has-union, From-insert, From-union, From-only}
 use Rattle.sets.proofs.Smallest.{From-take, From-drop, has-take-sub, has-drop-sub}
-use Rattle.rising.specs.Runs.{risesAbove, zeros, runOk, roomOf, placeOf, holdsAt, cutOut, removed, fromOn, before, over, inRoom}
+use Rattle.rising.specs.Runs.{risesAbove, zeros, runCoherent, roomOf, placeOf, holdsAt, cutOut, removed, fromOn, before, over, inRoom}
 
 -- A RISING RUN: strictly, above p, and none above the last number
 
@@ -84,7 +84,7 @@ pub record RunIs (p count : ℕ) (room : List ℕ) : Type 0 where
   pub rises : Rising p (take count room)
   pub zero : zeros (drop count room) ≡ true
 
-pub run-is : (p count : ℕ) (room : List ℕ) → runOk p count room ≡ true → RunIs p count room
+pub run-is : (p count : ℕ) (room : List ℕ) → runCoherent p count room ≡ true → RunIs p count room
 run-is p count room e =
     let f : (risesAbove p (take count room) && zeros (drop count room)) ≡ true = and-right (leb count (length room)) (risesAbove p (take count room) && zeros (drop count room)) e in
     record {
@@ -112,7 +112,7 @@ room-take m l = take-at l (replicate (m - length l) 0) (length l) refl
 pub room-length : (m : ℕ) (l : List ℕ) → length l ≤ m → length (roomOf m l) ≡ m
 room-length m l h = length-append l (replicate (m - length l) 0) ∙ ap (λ (n : ℕ). length l + n) (length-replicate (m - length l) 0) ∙ omega arith
 
-pub room-ok : (p m : ℕ) (l : List ℕ) → length l ≤ m → Rising p l → runOk p (length l) (roomOf m l) ≡ true
+pub room-ok : (p m : ℕ) (l : List ℕ) → length l ≤ m → Rising p l → runCoherent p (length l) (roomOf m l) ≡ true
 room-ok p m l h r =
     rw (le-leb (length l) (length (roomOf m l)) (omega (arith, room-length m l h)), room-take m l, are-rising p l r, drop-at l (replicate (m - length l) 0) (length l) refl)
     (are-zeros (m - length l))

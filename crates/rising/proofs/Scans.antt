@@ -12,8 +12,8 @@ use lib.Seq.{take-all}
 use borrow.Author.Tests.{eqb-true, eqb-false, eq-eqb, ne-eqb, le-leb, lt-leb, leb-true, leb-false, lt-ltb, le-ltb, ltb-true, ltb-false}
 use Rattle.sets.specs.Sets.{has, firstOr}
 use Rattle.sets.proofs.Bools.{decide, or-assoc, and-assoc, and-yes, and-no, and-left}
-use Rattle.numbers.specs.Number.{topNumber}
-use Rattle.rising.specs.Runs.{risesAbove, zeros, runOk, placeOf, holdsAt}
+use Rattle.numbers.specs.Capacities.{topNumber}
+use Rattle.rising.specs.Runs.{risesAbove, zeros, runCoherent, placeOf, holdsAt}
 use Rattle.sets.proofs.Loops.{here, done}
 
 or-zero : (a b : ℕ) → eqb (bitOr a b) 0 ≡ (eqb a 0 && eqb b 0)
@@ -135,14 +135,14 @@ rises-end p s i high up f l o k h e =
     sym (e ∙ rw (lt-ltb p (getD s 0 0) f, done s i h, z, le-leb (getD s (length s - 1) 0) topNumber l) (and-yes (climbs high up)))
 
 -- the check of a room
-pub run-short : (p count : ℕ) (s : List ℕ) → length s < count → false ≡ runOk p count s
+pub run-short : (p count : ℕ) (s : List ℕ) → length s < count → false ≡ runCoherent p count s
 run-short p count s h = rw (lt-leb count (length s) h)
 
 module _ (p count : ℕ) (s : List ℕ) (good : Bool) (h : count ≤ length s) (e : good ≡ risesAbove p (take count s)) where
-  pub run-not : good ≡ false → false ≡ runOk p count s
+  pub run-not : good ≡ false → false ≡ runCoherent p count s
   run-not f = rw (le-leb count (length s) h, ← e, f)
 
-  pub run-whole : good ≡ true → (clear : Bool) → clear ≡ zeros (take (length s - count) (drop count s)) → clear ≡ runOk p count s
+  pub run-whole : good ≡ true → (clear : Bool) → clear ≡ zeros (take (length s - count) (drop count s)) → clear ≡ runCoherent p count s
   run-whole f clear g = rw (le-leb count (length s) h, ← e, f) (g ∙ ap zeros (take-all (length s - count) (drop count s) (omega (arith, length-drop count s))))
 
 -- the place of n

@@ -6,7 +6,7 @@ use mathlib.Core.List.{List, [], _∷_, _++_}
 use lib.ListN.{length, take, drop, replicate}
 use lib.Dec.{ltb, leb, eqb}
 use Rattle.sets.specs.Sets.{insert, smallest, largest}
-use Rattle.numbers.specs.Number.{topNumber}
+use Rattle.numbers.specs.Capacities.{topNumber}
 use Rattle.numbers.specs.Promise.{Left1}
 
 -- strictly rising, all above p and none above 2^63−2
@@ -19,8 +19,8 @@ zeros [] = true
 zeros (x ∷ xs) = eqb x 0 && zeros xs
 
 -- a room that holds `count` such numbers, and zero in what it doesn't use
-abbrev pub runOk : ℕ → ℕ → List ℕ → Bool
-runOk p count room = leb count (length room) && (risesAbove p (take count room) && zeros (drop count room))
+abbrev pub runCoherent : ℕ → ℕ → List ℕ → Bool
+runCoherent p count room = leb count (length room) && (risesAbove p (take count room) && zeros (drop count room))
 
 -- the room of m numbers that holds l so
 abbrev pub roomOf : ℕ → List ℕ → List ℕ

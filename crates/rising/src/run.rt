@@ -6,7 +6,7 @@ ghost use Prim.Native.Nat.{min, _+_, _-_, _≤_};
 ghost use lib.Dec.{ltb};
 ghost use lib.ListN.{length, take, drop, replicate};
 ghost use Rattle.sets.specs.Sets.{has};
-ghost use Rattle.rising.specs.Runs.{risesAbove, zeros, runOk, placeOf, holdsAt, filled};
+ghost use Rattle.rising.specs.Runs.{risesAbove, zeros, runCoherent, placeOf, holdsAt, filled};
 use numbers::arith::smaller;
 
 // Whether the numbers rise strictly, all above `above` and none above 2 ^ 63 - 2. Of numbers below 2 ^ 63 the smaller is seen by the top bit of a difference
@@ -51,7 +51,7 @@ pub fn all_zero(s: &[u64]) -> bool
 
 // Whether a room holds `count` rising numbers above `above`, and zeros after them.
 pub fn run_ok(s: &[u64], count: usize, above: u64) -> bool
-    ensures { λ r. ⌜ r ≡ runOk above count (now (s .entry)) ⌝ }
+    ensures { λ r. ⌜ r ≡ runCoherent above count (now (s .entry)) ⌝ }
 {
     if s.len() < count {
         return false;

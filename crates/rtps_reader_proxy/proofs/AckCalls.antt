@@ -13,11 +13,11 @@ use borrow.Author.Tests.{lt-ltb, le-ltb, ltb-false, not-false, not-true}
 use Rattle.sets.specs.Sets.{From, only, between, union, smallest}
 use Rattle.sets.proofs.Bools.{and-left, and-right}
 use Rattle.sets.proofs.Has.{From-weak}
-use Rattle.numbers.specs.Number.{topNumber, rankOf, negative, inRange, numberAt}
-use Rattle.numbers.specs.Refusals.{answerOf, rowsOf, done, unless}
+use Rattle.numbers.specs.Capacities.{topNumber}
+use Rattle.numbers.specs.Number.{rankOf, negative, inRange, numberAt}
+use Rattle.numbers.specs.Refusals.{Rows, row, answerOf, done, unless}
 use Rattle.numbers.specs.Promise.{Left1, Left2, Gives1, Gives2}
 use Rattle.numbers.specs.declared.answer.Answer.{Answer}
-use Rattle.numbers.specs.declared.answer.Rows.{Rows}
 use Rattle.numbers.specs.declared.sequence_number.SequenceNumber.{SequenceNumber}
 use Rattle.numbers.specs.Answers.{earlier, inTurn}
 use Rattle.numbers.proofs.Refused.{clear, is-refused, is-done, gives2}
@@ -27,7 +27,7 @@ use Rattle.number_sets.specs.declared.sequence_number_set.SequenceNumberSet.{Se
 use Rattle.number_sets.specs.Bits.{members}
 use Rattle.number_sets.specs.Calls.{sequenceSet}
 use Rattle.number_sets.proofs.Meaning.{members-few}
-use Rattle.rising.specs.Runs.{runOk, roomOf, inRoom, fromOn, before}
+use Rattle.rising.specs.Runs.{runCoherent, roomOf, inRoom, fromOn, before}
 use Rattle.rising.proofs.Meaning.{RunIs, run-is, in-room, room-is, room-ok, room-take, room-length, from-only, rising-only}
 use Rattle.rising.proofs.Changes.{between-room, only-le}
 use Rattle.joined_runs.specs.Joined.{joinedIn}
@@ -35,8 +35,8 @@ use Rattle.joined_runs.proofs.Meaning.{join-is}
 use Rattle.rtps_reader_proxy.specs.declared.proxy.ReaderProxy.{ReaderProxy}
 use Rattle.rtps_reader_proxy.specs.declared.acks.AckNacked.{AckNacked}
 use Rattle.rtps_reader_proxy.specs.Reader.{Reader, baseOf, isLate, isAhead, staying, wanted, ackedAfter, leftOut}
-use Rattle.rtps_reader_proxy.specs.Record.{headOk, roomFor, unsentOk, gapsOk, gapFloor}
-use Rattle.rtps_reader_proxy.specs.Acks.{ackRows, ackFits, ackNackedOf, amongAnswer, ackNackedAmong, ackLeaves, acked, byBoth, headAfter, runLeft, Stayable, Ackable, ackedWith}
+use Rattle.rtps_reader_proxy.specs.Record.{proxyCoherent, roomFor, unsentCoherent, gapsCoherent, gapFloor}
+use Rattle.rtps_reader_proxy.specs.Acks.{ackRows, ackFits, ackNackedOf, amongAnswer, ackNackedAmong, ackLeaves, ackedReader, byBoth, proxyAfter, runLeft, Stayable, Ackable, ackedWith}
 use Rattle.rtps_reader_proxy.proofs.Parts.{room-for, smallest-fits, union-le}
 use Rattle.rtps_reader_proxy.proofs.UnsentCalls.{UnsentIs, unsent-is}
 use Rattle.rtps_reader_proxy.proofs.GapCalls.{GapsAre, gaps-are}
@@ -60,13 +60,13 @@ module _ (count : ℕ) (room : List ℕ) (last a base b : ℕ) (k : Stayable cou
       rw e (record { result = y .0 ∙ ap length z; first = y .1 ∙ ap (roomOf (length room)) z })
 
 -- the room that is left passes the check again
-stayed-ok : (count last base a : ℕ) (room : List ℕ) → RunIs 0 count room → runOk 0 (length (staying last base a (take count room))) (roomOf (length room) (staying last base a (take count room))) ≡ true
+stayed-ok : (count last base a : ℕ) (room : List ℕ) → RunIs 0 count room → runCoherent 0 (length (staying last base a (take count room))) (roomOf (length room) (staying last base a (take count room))) ≡ true
 stayed-ok count last base a room r = go (isLate a base)
   where
     few : length (take count room) ≤ length room
     few = omega (arith, length-take count room)
 
-    go : (t : Bool) → runOk 0 (length (cond t (take count room) (between (baseOf base) last (take count room)))) (roomOf (length room) (cond t (take count room) (between (baseOf base) last (take count room)))) ≡ true
+    go : (t : Bool) → runCoherent 0 (length (cond t (take count room) (between (baseOf base) last (take count room)))) (roomOf (length room) (cond t (take count room) (between (baseOf base) last (take count room)))) ≡ true
     go true = room-ok 0 (length room) (take count room) few (r .rises)
     go false =
         room-ok 0 (length room) (between (baseOf base) last (take count room)) (omega (arith, only-le (λ n. leb (baseOf base) n && leb n last) (take count room), few))
@@ -92,7 +92,7 @@ module _ (h : ReaderProxy) (unsent gaps : List ℕ) (set : SequenceNumberSet) (l
   held = take (h .«gap_count») gaps
 
   pub stayable : Stayable (h .«unsent_count») unsent last
-  stayable = record { run = and-right (leb (length unsent) (h .«unsent_cap»)) (runOk 0 (h .«unsent_count») unsent) (and-right (headOk h) (leb (length unsent) (h .«unsent_cap») && runOk 0 (h .«unsent_count») unsent) (k .unsent-ok)); top = k .top }
+  stayable = record { run = and-right (leb (length unsent) (h .«unsent_cap»)) (runCoherent 0 (h .«unsent_count») unsent) (and-right (proxyCoherent h) (leb (length unsent) (h .«unsent_cap») && runCoherent 0 (h .«unsent_count») unsent) (k .unsent-ok)); top = k .top }
 
   module _ (a base low c : ℕ) (v : List ℕ) (ea : a ≡ rankOf (h .«all_acked_before»)) (eb : base ≡ rankOf (set .base)) (el : low ≡ max a (max base 1))
       (s : Gives1 c v (runLeft (length (staying last base a (take (h .«unsent_count») unsent))) (length unsent) (staying last base a (take (h .«unsent_count») unsent)))) where
@@ -163,26 +163,11 @@ module _ (h : ReaderProxy) (unsent gaps : List ℕ) (set : SequenceNumberSet) (l
 -- THE WHOLE CALL
 
 -- its rows, by what the code found
-pub ack-rows : (set : SequenceNumberSet) (last : SequenceNumber) (h : ReaderProxy) (unsent gaps : List ℕ) (a : Answer) (none : Rows) (x : ℕ) (f u g w n : Bool) (end b m : ℕ)
-    → none ≡ rowsOf [] → x ≡ min (set .count) 256 → f ≡ roomFor x (h .«unsent_cap») (h .«unsent_count») unsent → u ≡ unsentOk h unsent → g ≡ gapsOk h gaps → w ≡ inRange last topNumber → n ≡ negative (set .base) → end ≡ rankOf last → b ≡ rankOf (set .base) → m ≡ max b 1
-    → a ≡ answerOf (record {
-      limit = none .limit;
-      incoherent = not (f && (u && g));
-      bits = ltb 256 (set .count);
-      range = n || not w;
-      reader = none .reader;
-      ahead = ltb (end + 1) m;
-      payload = none .payload;
-      «used_up» = none .«used_up»;
-      «would_block» = none .«would_block»;
-      «store_full» = none .«store_full»;
-      «readers_full» = none .«readers_full»;
-      «gaps_full» = none .«gaps_full»;
-      «frags_full» = none .«frags_full»;
-      nothing = none .nothing;
-    })
+pub ack-rows : (set : SequenceNumberSet) (last : SequenceNumber) (h : ReaderProxy) (unsent gaps : List ℕ) (a : Answer) (x : ℕ) (f u g w n : Bool) (end b m : ℕ)
+    → x ≡ min (set .count) 256 → f ≡ roomFor x (h .«unsent_cap») (h .«unsent_count») unsent → u ≡ unsentCoherent h unsent → g ≡ gapsCoherent h gaps → w ≡ inRange last topNumber → n ≡ negative (set .base) → end ≡ rankOf last → b ≡ rankOf (set .base) → m ≡ max b 1
+    → a ≡ answerOf (row 1 refl (not (f && (u && g))) ∷ row 3 refl (ltb 256 (set .count)) ∷ row 2 refl (n || not w) ∷ row 12 refl (ltb (end + 1) m) ∷ [])
     → a ≡ answerOf (ackRows h unsent gaps set last)
-ack-rows set last h unsent gaps a none x f u g w n end b m e0 ex ef eu eg ew en ee eb em q = q ∙ rw (e0, ef, ex, eu, eg, ew, en, em, ee, eb, add-one)
+ack-rows set last h unsent gaps a x f u g w n end b m ex ef eu eg ew en ee eb em q = q ∙ rw (ef, ex, eu, eg, ew, en, em, ee, eb, add-one)
 
 module _ (set : SequenceNumberSet) (last : SequenceNumber) (h : ReaderProxy) (unsent gaps : List ℕ) (a : Answer) (q : a ≡ answerOf (ackRows h unsent gaps set last)) where
   abbrev not-acked : Answer → Left2 AckNacked (List ℕ) (List ℕ)
@@ -197,17 +182,17 @@ module _ (set : SequenceNumberSet) (last : SequenceNumber) (h : ReaderProxy) (un
     pub ackable : (end : ℕ) → end ≡ rankOf last → Ackable h unsent gaps set end
     ackable end e =
         let c = clear (ackRows h unsent gaps set last) a q z in
-        let all = not-false (ackFits h unsent set && (unsentOk h unsent && gapsOk h gaps)) (c .incoherent) in
-        let both = and-right (ackFits h unsent set) (unsentOk h unsent && gapsOk h gaps) all in
-        let rg = or-none (negative (set .base)) (not (inRange last topNumber)) (c .range) in
+        let all = not-false (ackFits h unsent set && (unsentCoherent h unsent && gapsCoherent h gaps)) (c 1 refl) in
+        let both = and-right (ackFits h unsent set) (unsentCoherent h unsent && gapsCoherent h gaps) all in
+        let rg = or-none (negative (set .base)) (not (inRange last topNumber)) (c 2 refl) in
         record {
-          fits = and-left (ackFits h unsent set) (unsentOk h unsent && gapsOk h gaps) all;
-          unsent-ok = and-left (unsentOk h unsent) (gapsOk h gaps) both;
-          gaps-ok = and-right (unsentOk h unsent) (gapsOk h gaps) both;
-          bits = ltb-false 256 (set .count) (c .bits);
+          fits = and-left (ackFits h unsent set) (unsentCoherent h unsent && gapsCoherent h gaps) all;
+          unsent-ok = and-left (unsentCoherent h unsent) (gapsCoherent h gaps) both;
+          gaps-ok = and-right (unsentCoherent h unsent) (gapsCoherent h gaps) both;
+          bits = ltb-false 256 (set .count) (c 3 refl);
           base = rg .0;
           top = omega (arith, in-range last topNumber (not-false (inRange last topNumber) (rg .1)) .1);
-          behind = ap (λ (x : ℕ). isAhead x (rankOf (set .base))) e ∙ c .ahead;
+          behind = ap (λ (x : ℕ). isAhead x (rankOf (set .base))) e ∙ c 12 refl;
         }
       where
         or-none : (x y : Bool) → (x || y) ≡ false → (x ≡ false) × (y ≡ false)
@@ -234,7 +219,7 @@ module _ (beside after : Answer) (set : SequenceNumberSet) (last : SequenceNumbe
 
   module _ (z : a .number ≡ 0) where
     pub own-done : own .number ≡ 0
-    own-done = left-done own beside (ackRows h unsent gaps set last) q (sym (ap (λ (x : Answer). x .number) qa) ∙ turn-done all after (sym (ap (λ (x : Answer). x .number) qt) ∙ z) .0)
+    own-done = left-done own beside (sym (ap (λ (x : Answer). x .number) qa) ∙ turn-done all after (sym (ap (λ (x : Answer). x .number) qt) ∙ z) .0)
 
     pub among-done : (end : ℕ) (r : AckNacked) (u g : List ℕ) → end ≡ rankOf last → Gives2 r u g (ackLeaves set end h unsent gaps) → Gives2 r u g (ackNackedAmong beside after set last h unsent gaps)
     among-done end r u g e p =

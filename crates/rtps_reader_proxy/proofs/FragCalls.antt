@@ -12,15 +12,15 @@ use lib.Seq.{length-take-le}
 use borrow.Author.Tests.{not-false, not-true, eqb-false, leb-true, leb-false, eq-eqb, ne-eqb}
 use Rattle.sets.specs.Sets.{has, From, empty, insert, only}
 use Rattle.sets.proofs.Bools.{and-left, and-right, decide, neither}
-use Rattle.numbers.specs.Number.{topNumber, topFragment, rankOf, isSample, numberAt, fragmentAt}
-use Rattle.numbers.specs.Refusals.{Row, row, rowsOf, answerOf, done, unless}
+use Rattle.numbers.specs.Capacities.{topNumber, topFragment}
+use Rattle.numbers.specs.Number.{rankOf, isSample, numberAt, fragmentAt}
+use Rattle.numbers.specs.Refusals.{holdsIn, Row, row, answerOf, done, unless, Rows}
 use Rattle.numbers.specs.Cursor.{cursorAt, cursorPast}
 use Rattle.numbers.specs.Promise.{Left2, Gives2}
 use Rattle.numbers.specs.declared.answer.Answer.{Answer}
-use Rattle.numbers.specs.declared.answer.Rows.{Rows}
-use Rattle.numbers.specs.declared.cursor.Cursor.{Cursor}
+use Rattle.numbers.specs.declared.cursor.FragmentCursor.{FragmentCursor}
 use Rattle.numbers.specs.declared.sequence_number.SequenceNumber.{SequenceNumber}
-use Rattle.numbers.proofs.Refused.{clear, done-is, is-refused, is-done, gives2}
+use Rattle.numbers.proofs.Refused.{clear, first-row, done-is, is-refused, is-done, gives2}
 use Rattle.number_sets.specs.declared.fragment_number_set.FragmentNumberSet.{FragmentNumberSet}
 use Rattle.number_sets.specs.Bits.{members}
 use Rattle.number_sets.specs.Calls.{fragmentSet}
@@ -28,8 +28,8 @@ use Rattle.rising.proofs.Meaning.{rises-are}
 use Rattle.rising.proofs.Inserts.{insert-le}
 use Rattle.rising.proofs.Changes.{insert-same}
 use Rattle.requested_fragments.specs.declared.table.NextPiece.{NextPiece}
-use Rattle.requested_fragments.specs.Entries.{Entry, asked, requested, sent, samplesOf, nextSample, nextFragment, some}
-use Rattle.requested_fragments.specs.Table.{Block, coherentRooms, tableOf, view, entriesOf, samplesRoom, wordsRoom, askT, askable, fits, askedIn, markedIn, nextOf}
+use Rattle.requested_fragments.specs.Entries.{Entry, requestedSome, requested, sent, samplesOf, nextSample, nextFragment, some}
+use Rattle.requested_fragments.specs.Table.{Block, fragRoomsCoherent, tableOf, blocksView, entriesOf, samplesRoom, wordsRoom, askT, askable, roomsHold, askedIn, markedIn, nextPieceOf}
 use Rattle.requested_fragments.proofs.Blocks.{samples-of, samples-length}
 use Rattle.requested_fragments.proofs.Laws.{fit}
 use Rattle.requested_fragments.proofs.Coherent.{Coherent, is-coherent}
@@ -43,8 +43,8 @@ use Rattle.rtps_reader_proxy.specs.declared.proxy.Changed.{Changed}
 use Rattle.rtps_reader_proxy.specs.declared.fragments.NextFragRequested.{NextFragRequested}
 use Rattle.rtps_reader_proxy.specs.declared.fragments.Told.{Told}
 use Rattle.rtps_reader_proxy.specs.Reader.{Reader, needsSlot, fragsRequested, fragSent}
-use Rattle.rtps_reader_proxy.specs.Record.{headOk, roomFor, changed}
-use Rattle.rtps_reader_proxy.specs.Fragments.{fragsOk, countFrags, entriesIn, byFrags, fragsBy, cannotAsk, noSlot, fragsRequestedOf, nextFragOf, nextPiece, repairOf}
+use Rattle.rtps_reader_proxy.specs.Record.{proxyCoherent, roomFor, changed}
+use Rattle.rtps_reader_proxy.specs.Fragments.{fragsCoherent, countFrags, entriesIn, byFrags, fragsBy, cannotAsk, noSlot, fragsRequestedOf, nextFragOf, nextFragAnswer, repairOf}
 use Rattle.rtps_reader_proxy.proofs.GapCalls.{above}
 use Rattle.rtps_reader_proxy.proofs.Parts.{room-for}
 
@@ -95,14 +95,14 @@ can-ask n set e =
     above-0 k f = omega arith
 
 -- a request that finds a slot leaves no more than what is lent has room for
-module _ (c : ℕ) (S W : List ℕ) (k : coherentRooms c S W ≡ true) where
+module _ (c : ℕ) (S W : List ℕ) (k : fragRoomsCoherent c S W ≡ true) where
   abbrev held : List Entry
   held = entriesOf c S W
 
   known : Coherent c S W
   known = is-coherent c S W k
 
-  fitting : fits c S W ≡ true
+  fitting : roomsHold c S W ≡ true
   fitting = fit c S W (known .small) (omega (arith, known .small, known .lengthW))
 
   pub count-is : length (samplesOf held) ≡ c
@@ -126,21 +126,21 @@ module _ (c : ℕ) (S W : List ℕ) (k : coherentRooms c S W ≡ true) where
 
   -- what a request leaves passes the check, holds what was held and asked for, and is as long
   pub request-again : (n : ℕ) (ms : List ℕ) → From 1 ms → Within ms 64 → 0 < n → n ≤ topNumber → roomFor 1 16 c S ≡ true → (leb 16 c && (not (empty ms) && not (has (samplesOf held) n))) ≡ false
-      → (coherentRooms (askedIn n ms c S W .result) (askedIn n ms c S W .first) (askedIn n ms c S W .second) ≡ true)
+      → (fragRoomsCoherent (askedIn n ms c S W .result) (askedIn n ms c S W .first) (askedIn n ms c S W .second) ≡ true)
       × (entriesOf (askedIn n ms c S W .result) (askedIn n ms c S W .first) (askedIn n ms c S W .second) ≡ requested n ms held)
       × (length (askedIn n ms c S W .first) ≡ length S)
   request-again n ms f w lo hi room e = go (decide (empty ms))
     where
       go : (empty ms ≡ true) ⊎ (empty ms ≡ false)
-          → (coherentRooms (askedIn n ms c S W .result) (askedIn n ms c S W .first) (askedIn n ms c S W .second) ≡ true)
+          → (fragRoomsCoherent (askedIn n ms c S W .result) (askedIn n ms c S W .first) (askedIn n ms c S W .second) ≡ true)
           × (entriesOf (askedIn n ms c S W .result) (askedIn n ms c S W .first) (askedIn n ms c S W .second) ≡ requested n ms held)
           × (length (askedIn n ms c S W .first) ≡ length S)
       go (inl t) = rw (fitting, t) (k, refl, refl)
       go (inr t) = asked-again c S W n ms k f w lo hi (slot-left n ms f w room (ap (λ (b : Bool). leb 16 c && (not b && not (has (samplesOf held) n))) (sym t) ∙ e))
 
-module _ (h : ReaderProxy) (samples words : List ℕ) (fits : Bool) (rows : List Row) (a : Answer) (q : a ≡ answerOf (rowsOf (row 1 (not (fits && fragsOk h samples words)) ∷ rows))) where
+module _ (h : ReaderProxy) (samples words : List ℕ) (fits : Bool) (rows : List Row) (a : Answer) (q : a ≡ answerOf (row 1 refl (not (fits && fragsCoherent h samples words)) ∷ rows)) where
   abbrev frag-rows : Rows
-  frag-rows = rowsOf (row 1 (not (fits && fragsOk h samples words)) ∷ rows)
+  frag-rows = row 1 refl (not (fits && fragsCoherent h samples words)) ∷ rows
 
   abbrev not-changed : Answer → Left2 Changed (List ℕ) (List ℕ)
   not-changed x = record { result = record { answer = x; proxy = h }; first = samples; second = words }
@@ -157,20 +157,20 @@ module _ (h : ReaderProxy) (samples words : List ℕ) (fits : Bool) (rows : List
   frags-refused f n = gives2 (record { answer = a; proxy = h }) samples words (not-changed a) (fragsBy fits rows f h samples words) (is-refused frag-rows a q not-changed (is-changed f) n) refl refl refl
 
   module _ (z : a .number ≡ 0) where
-    frags-both : (fits && fragsOk h samples words) ≡ true
-    frags-both = not-false (fits && fragsOk h samples words) (clear frag-rows a q z .incoherent)
+    frags-both : (fits && fragsCoherent h samples words) ≡ true
+    frags-both = not-false (fits && fragsCoherent h samples words) (first-row (holdsIn 1 rows) _ (clear frag-rows a q z 1 refl))
 
-    pub frags-known : coherentRooms (h .«frag_count») samples words ≡ true
-    frags-known = and-right (headOk h) (coherentRooms (h .«frag_count») samples words) (and-right fits (fragsOk h samples words) frags-both)
+    pub frags-known : fragRoomsCoherent (h .«frag_count») samples words ≡ true
+    frags-known = and-right (proxyCoherent h) (fragRoomsCoherent (h .«frag_count») samples words) (and-right fits (fragsCoherent h samples words) frags-both)
 
     -- rooms as long as those lent that pass the check and hold what the reader's step f leaves
-    frags-done : (f : Reader → Reader) (n : ℕ) (S W : List ℕ) (r : Changed) → r ≡ changed a (countFrags n h) → Words W → length S ≡ length samples → coherentRooms n S W ≡ true
+    frags-done : (f : Reader → Reader) (n : ℕ) (S W : List ℕ) (r : Changed) → r ≡ changed a (countFrags n h) → Words W → length S ≡ length samples → fragRoomsCoherent n S W ≡ true
         → entriesOf n S W ≡ f (byFrags h samples words) .frags → Gives2 r S W (fragsBy fits rows f h samples words)
     frags-done f n S W r e w l k v =
         let y = rooms-are n S W k w in
         let c : n ≡ length (f (byFrags h samples words) .frags) = y .0 ∙ ap length v in
         gives2 r S W (is-changed f) (fragsBy fits rows f h samples words) (is-done frag-rows a q not-changed (is-changed f) z)
-        (e ∙ rw (done-is a z, c)) (y .1 ∙ ap (samplesRoom (length S)) v ∙ ap (λ (m : ℕ). samplesRoom m (f (byFrags h samples words) .frags)) l)
+        (e ∙ rw (done-is frag-rows a q z, c)) (y .1 ∙ ap (samplesRoom (length S)) v ∙ ap (λ (m : ℕ). samplesRoom m (f (byFrags h samples words) .frags)) l)
         (y .2 ∙ ap (wordsRoom (length S)) v ∙ ap (λ (m : ℕ). wordsRoom m (f (byFrags h samples words) .frags)) l)
 
     pub sent-done : (m f n : ℕ) (S W : List ℕ) (r : Changed) → r ≡ changed a (countFrags n h) → Words W → Gives2 n S W (markedIn m f (h .«frag_count») samples words)
@@ -185,7 +185,7 @@ module _ (h : ReaderProxy) (samples words : List ℕ) (fits : Bool) (rows : List
     requested-done ef m set n S W r ca ns e w g =
         let k = can-ask m set ca in
         let y =
-        request-again (h .«frag_count») samples words frags-known (rankOf m) (askable set) (askable-rises set) (askable-within set) (k .low) (k .high) (sym ef ∙ and-left fits (fragsOk h samples words) frags-both)
+        request-again (h .«frag_count») samples words frags-known (rankOf m) (askable set) (askable-rises set) (askable-within set) (k .low) (k .high) (sym ef ∙ and-left fits (fragsCoherent h samples words) frags-both)
         (ap (λ (l : List ℕ). leb 16 (h .«frag_count») && needsSlot (rankOf m) l (byFrags h samples words)) (k .all) ∙ ns) in
         frags-done (fragsRequested (rankOf m) (members (fragmentSet set))) n S W r e w (ap length (g .first) ∙ y .2) (rw (g .result, g .first, g .second) (y .0))
         (rw (g .result, g .first, g .second) (y .1) ∙ ap (λ (l : List ℕ). requested (rankOf m) l (entriesIn h samples words)) (k .all))
@@ -196,19 +196,19 @@ module _ (n : SequenceNumber) (set : FragmentNumberSet) (h : ReaderProxy) (sampl
   room = roomFor 1 16 (h .«frag_count») samples
 
   abbrev request-rows : Bool → Bool → Bool → List Row
-  request-rows fits range full = row 1 (not (fits && fragsOk h samples words)) ∷ row 3 (ltb 256 (set .count)) ∷ row 2 range ∷ row 10 full ∷ []
+  request-rows fits range full = row 1 refl (not (fits && fragsCoherent h samples words)) ∷ row 3 refl (ltb 256 (set .count)) ∷ row 2 refl range ∷ row 10 refl full ∷ []
 
   -- its rows, by what the code found
-  pub rows-found : (k : ℕ) (fits range full : Bool) → fits ≡ room → range ≡ cannotAsk n set → k ≡ rankOf n → full ≡ noSlot k set h samples words → a ≡ answerOf (rowsOf (request-rows fits range full))
-      → a ≡ answerOf (rowsOf (request-rows room (cannotAsk n set) (noSlot (rankOf n) set h samples words)))
+  pub rows-found : (k : ℕ) (fits range full : Bool) → fits ≡ room → range ≡ cannotAsk n set → k ≡ rankOf n → full ≡ noSlot k set h samples words → a ≡ answerOf ((request-rows fits range full))
+      → a ≡ answerOf ((request-rows room (cannotAsk n set) (noSlot (rankOf n) set h samples words)))
   rows-found k fits range full ew er ek ef q =
-      q ∙ ap (λ (t : Bool). answerOf (rowsOf (request-rows t range full))) ew
-      ∙ ap (λ (t : Bool). answerOf (rowsOf (request-rows room t full))) er
-      ∙ ap (λ (t : Bool). answerOf (rowsOf (request-rows room (cannotAsk n set) t))) (ef ∙ ap (λ (x : ℕ). noSlot x set h samples words) ek)
+      q ∙ ap (λ (t : Bool). answerOf ((request-rows t range full))) ew
+      ∙ ap (λ (t : Bool). answerOf ((request-rows room t full))) er
+      ∙ ap (λ (t : Bool). answerOf ((request-rows room (cannotAsk n set) t))) (ef ∙ ap (λ (x : ℕ). noSlot x set h samples words) ek)
 
-  module _ (q : a ≡ answerOf (rowsOf (request-rows room (cannotAsk n set) (noSlot (rankOf n) set h samples words)))) where
+  module _ (q : a ≡ answerOf ((request-rows room (cannotAsk n set) (noSlot (rankOf n) set h samples words)))) where
     abbrev these : List Row
-    these = row 3 (ltb 256 (set .count)) ∷ row 2 (cannotAsk n set) ∷ row 10 (noSlot (rankOf n) set h samples words) ∷ []
+    these = row 3 refl (ltb 256 (set .count)) ∷ row 2 refl (cannotAsk n set) ∷ row 10 refl (noSlot (rankOf n) set h samples words) ∷ []
 
     pub request-refused : (a .number ≡ 0 → ⊥) → Gives2 (record { answer = a; proxy = h }) samples words (fragsRequestedOf n set h samples words)
     request-refused z = frags-refused h samples words room these a q (fragsRequested (rankOf n) (members (fragmentSet set))) z
@@ -216,41 +216,27 @@ module _ (n : SequenceNumber) (set : FragmentNumberSet) (h : ReaderProxy) (sampl
     pub request-done : a .number ≡ 0 → (k c : ℕ) (S W : List ℕ) (r : Changed) → k ≡ rankOf n → r ≡ changed a (countFrags c h) → Words W
         → Gives2 c S W (askedIn k (askable set) (h .«frag_count») samples words) → Gives2 r S W (fragsRequestedOf n set h samples words)
     request-done z k c S W r ek e w g =
-        let free = clear (rowsOf (request-rows room (cannotAsk n set) (noSlot (rankOf n) set h samples words))) a q z in
-        requested-done h samples words room these a q z refl n set c S W r (free .range) (free .frags-full) e w
+        let free = clear ((request-rows room (cannotAsk n set) (noSlot (rankOf n) set h samples words))) a q z in
+        requested-done h samples words room these a q z refl n set c S W r (free 2 refl) (free 10 refl) e w
         (subst (λ (x : ℕ). Gives2 c S W (askedIn x (askable set) (h .«frag_count») samples words)) ek g)
 
--- the answer of a question for the next fragment
-module _ (rows : Rows) (n f : ℕ) (a : Answer) (q : a ≡ answerOf rows) where
-  abbrev no-piece : Answer → NextFragRequested
-  no-piece x = record { answer = x; sample = numberAt 0; fragment = fragmentAt 0; cursor = cursorAt 0 }
-
-  abbrev this-piece : Answer → NextFragRequested
-  this-piece x = record { answer = x; sample = numberAt n; fragment = fragmentAt f; cursor = cursorPast f }
-
-  pub piece-refused : (a .number ≡ 0 → ⊥) → no-piece a ≡ nextPiece rows n f
-  piece-refused z = is-refused rows a q no-piece (this-piece done) z
-
-  pub piece-found : a .number ≡ 0 → this-piece a ≡ nextPiece rows n f
-  piece-found z = ap this-piece (done-is a z) ∙ is-done rows a q no-piece (this-piece done) z
-
 -- the next fragment: where none is found, its sample doesn't matter
-pub next-piece : (at : Cursor) (h : ReaderProxy) (samples words : List ℕ) (next : NextPiece) → next ≡ nextOf (at .from) (entriesIn h samples words)
-    → nextPiece (rowsOf (row 1 (not (fragsOk h samples words)) ∷ row 14 (next .none) ∷ [])) (next .sample) (next .fragment) ≡ nextFragOf at h samples words
+pub next-piece : (at : FragmentCursor) (h : ReaderProxy) (samples words : List ℕ) (next : NextPiece) → next ≡ nextPieceOf (at .from) (entriesIn h samples words)
+    → nextFragAnswer (row 1 refl (not (fragsCoherent h samples words)) ∷ row 14 refl (next .none) ∷ []) (next .sample) (next .fragment) ≡ nextFragOf at h samples words
 next-piece at h samples words next v =
-    ap (λ (x : NextPiece). nextPiece (rowsOf (row 1 (not (fragsOk h samples words)) ∷ row 14 (x .none) ∷ [])) (x .sample) (x .fragment)) v
-    ∙ go (not (fragsOk h samples words)) (eqb (nextFragment (at .from) (entriesIn h samples words)) 0)
+    ap (λ (x : NextPiece). nextFragAnswer (row 1 refl (not (fragsCoherent h samples words)) ∷ row 14 refl (x .none) ∷ []) (x .sample) (x .fragment)) v
+    ∙ go (not (fragsCoherent h samples words)) (eqb (nextFragment (at .from) (entriesIn h samples words)) 0)
   where
     go : (i t : Bool)
-        → nextPiece (rowsOf (row 1 i ∷ row 14 t ∷ [])) (cond t 0 (nextSample (entriesIn h samples words))) (nextFragment (at .from) (entriesIn h samples words))
-        ≡ nextPiece (rowsOf (row 1 i ∷ row 14 t ∷ [])) (nextSample (entriesIn h samples words)) (nextFragment (at .from) (entriesIn h samples words))
+        → nextFragAnswer (row 1 refl i ∷ row 14 refl t ∷ []) (cond t 0 (nextSample (entriesIn h samples words))) (nextFragment (at .from) (entriesIn h samples words))
+        ≡ nextFragAnswer (row 1 refl i ∷ row 14 refl t ∷ []) (nextSample (entriesIn h samples words)) (nextFragment (at .from) (entriesIn h samples words))
     go true true = refl
     go true false = refl
     go false true = refl
     go false false = refl
 
 -- whether any is requested
-module _ (h : ReaderProxy) (samples words : List ℕ) (a : Answer) (q : a ≡ answerOf (rowsOf (row 1 (not (fragsOk h samples words)) ∷ []))) where
+module _ (h : ReaderProxy) (samples words : List ℕ) (a : Answer) (q : a ≡ answerOf (row 1 refl (not (fragsCoherent h samples words)) ∷ [])) where
   abbrev not-told : Answer → Told
   not-told x = record { answer = x; yes = false }
 
@@ -258,13 +244,13 @@ module _ (h : ReaderProxy) (samples words : List ℕ) (a : Answer) (q : a ≡ an
   is-told = record { answer = done; yes = some (entriesIn h samples words) }
 
   pub repair-refused : (a .number ≡ 0 → ⊥) → not-told a ≡ repairOf h samples words
-  repair-refused z = is-refused (rowsOf (row 1 (not (fragsOk h samples words)) ∷ [])) a q not-told is-told z
+  repair-refused z = is-refused (row 1 refl (not (fragsCoherent h samples words)) ∷ []) a q not-told is-told z
 
   pub repair-done : a .number ≡ 0 → _≡_ {A = Told} (record { answer = a; yes = not (eqb (h .«frag_count») 0) }) (repairOf h samples words)
   repair-done z =
       let c = count-is (h .«frag_count») samples words (frags-known h samples words true [] a q z) in
       let y : not (eqb (h .«frag_count») 0) ≡ some (entriesIn h samples words) = ap (λ (n : ℕ). not (eqb n 0)) (sym c) ∙ some-is (entriesIn h samples words) in
-      rw (done-is a z, y) (is-done (rowsOf (row 1 (not (fragsOk h samples words)) ∷ [])) a q not-told is-told z)
+      rw (done-is (row 1 refl (not (fragsCoherent h samples words)) ∷ []) a q z, y) (is-done (row 1 refl (not (fragsCoherent h samples words)) ∷ []) a q not-told is-told z)
     where
       some-is : (es : List Entry) → not (eqb (length (samplesOf es)) 0) ≡ some es
       some-is [] = refl

@@ -1,50 +1,49 @@
 -- What `handle_ack_nack` answers and leaves. It is lent the unsent room and the gap room. Assumes nothing.
 use Prim.Native.Nat.{ℕ, suc, _-_, _≤_, min, max}
-use mathlib.Core.Path.{_≡_}
+use mathlib.Core.Path.{_≡_, refl}
 use mathlib.Core.Bool.{Bool, true, false, not, cond, _&&_, _||_}
 use mathlib.Core.List.{List, [], _∷_}
 use lib.Dec.{ltb}
 use lib.ListN.{length, take}
-use Rattle.numbers.specs.Number.{topNumber, rankOf, inRange, negative, numberAt}
-use Rattle.numbers.specs.Refusals.{row, rowsOf, answerOf, done, unless}
+use Rattle.numbers.specs.Capacities.{mostBits, topNumber}
+use Rattle.numbers.specs.Number.{rankOf, inRange, negative, numberAt}
+use Rattle.numbers.specs.Refusals.{row, answerOf, done, unless, Rows}
 use Rattle.numbers.specs.Answers.{earlier, inTurn, answered}
 use Rattle.numbers.specs.Promise.{Left1, Left2}
 use Rattle.numbers.specs.declared.answer.Answer.{Answer}
-use Rattle.numbers.specs.declared.answer.Rows.{Rows}
 use Rattle.numbers.specs.declared.sequence_number.SequenceNumber.{SequenceNumber}
 use Rattle.number_sets.specs.declared.sequence_number_set.SequenceNumberSet.{SequenceNumberSet}
 use Rattle.number_sets.specs.Bits.{NumberSet, members}
 use Rattle.number_sets.specs.Calls.{sequenceSet}
-use Rattle.rising.specs.Runs.{runOk, roomOf}
+use Rattle.rising.specs.Runs.{runCoherent, roomOf}
 use Rattle.rtps_reader_proxy.specs.declared.proxy.ReaderProxy.{ReaderProxy}
 use Rattle.rtps_reader_proxy.specs.declared.acks.AckNacked.{AckNacked}
 use Rattle.rtps_reader_proxy.specs.Reader.{Reader, isAhead, acknowledge, leftOut, staying, wanted, ackedAfter, baseOf}
-use Rattle.rtps_reader_proxy.specs.Record.{roomFor, unsentOk, gapsOk, seen}
+use Rattle.rtps_reader_proxy.specs.Record.{roomFor, unsentCoherent, gapsCoherent, readerView}
 
 -- what refuses an acknowledgement with the set z: by whether all is coherent, whether a number is out of its range, and whether the reader is unknown,
 -- where it is named; "b > last+1: answer 12"
 abbrev pub ackRowsOf : Bool → NumberSet → Bool → Bool → ℕ → Rows
 ackRowsOf coherent z range reader last =
-    rowsOf
-    (row 1 (not coherent)
-    ∷ row 3 (ltb 256 (z .count))
-    ∷ row 2 range
-    ∷ row 11 reader
-    ∷ row 12 (isAhead last (z .base))
+    (row 1 refl (not coherent)
+    ∷ row 3 refl (ltb mostBits (z .count))
+    ∷ row 2 refl range
+    ∷ row 11 refl reader
+    ∷ row 12 refl (isAhead last (z .base))
     ∷ [])
 
 -- what is lent of the unsent room has room for as many numbers as the set has bits
 abbrev pub ackFits : ReaderProxy → List ℕ → SequenceNumberSet → Bool
-ackFits h unsent set = roomFor (min (set .count) 256) (h .«unsent_cap») (h .«unsent_count») unsent
+ackFits h unsent set = roomFor (min (set .count) mostBits) (h .«unsent_cap») (h .«unsent_count») unsent
 
 -- "A negative base is refused with 2"; `last` is "0 to 2^63−2". This call has the record itself, so no reader is unknown
 abbrev pub ackRows : ReaderProxy → List ℕ → List ℕ → SequenceNumberSet → SequenceNumber → Rows
 ackRows h unsent gaps set last =
-    ackRowsOf (ackFits h unsent set && (unsentOk h unsent && gapsOk h gaps)) (sequenceSet set) (negative (set .base) || not (inRange last topNumber)) false (rankOf last)
+    ackRowsOf (ackFits h unsent set && (unsentCoherent h unsent && gapsCoherent h gaps)) (sequenceSet set) (negative (set .base) || not (inRange last topNumber)) false (rankOf last)
 
--- the head of a reader whose fragments aren't touched
-abbrev pub headAfter : Reader → ReaderProxy → ReaderProxy
-headAfter r h =
+-- the proxy of a reader whose fragments aren't touched
+abbrev pub proxyAfter : Reader → ReaderProxy → ReaderProxy
+proxyAfter r h =
     record {
       «all_acked_before» = numberAt (r .acked);
       «unsent_cap» = h .«unsent_cap»;
@@ -54,13 +53,13 @@ headAfter r h =
       «frag_count» = h .«frag_count»;
     }
 
--- the reader, as far as the head and the two rooms show it
+-- the reader, as far as the proxy and the two rooms show it
 abbrev pub byBoth : ReaderProxy → List ℕ → List ℕ → Reader
-byBoth h unsent gaps = seen h unsent gaps []
+byBoth h unsent gaps = readerView h unsent gaps []
 
 -- what an acknowledgement that isn't refused leaves
-abbrev pub acked : SequenceNumberSet → ℕ → ReaderProxy → List ℕ → List ℕ → Reader
-acked set last h unsent gaps = acknowledge last (rankOf (set .base)) (members (sequenceSet set)) (byBoth h unsent gaps)
+abbrev pub ackedReader : SequenceNumberSet → ℕ → ReaderProxy → List ℕ → List ℕ → Reader
+ackedReader set last h unsent gaps = acknowledge last (rankOf (set .base)) (members (sequenceSet set)) (byBoth h unsent gaps)
 
 abbrev pub ackLeaves : SequenceNumberSet → ℕ → ReaderProxy → List ℕ → List ℕ → Left2 AckNacked (List ℕ) (List ℕ)
 ackLeaves set last h unsent gaps =
@@ -68,10 +67,10 @@ ackLeaves set last h unsent gaps =
       result = record {
         answer = done;
         «left_out» = leftOut last (rankOf (set .base)) (members (sequenceSet set)) (byBoth h unsent gaps);
-        proxy = headAfter (acked set last h unsent gaps) h;
+        proxy = proxyAfter (ackedReader set last h unsent gaps) h;
       };
-      first = roomOf (length unsent) (acked set last h unsent gaps .unsent);
-      second = roomOf (length gaps) (acked set last h unsent gaps .gaps);
+      first = roomOf (length unsent) (ackedReader set last h unsent gaps .unsent);
+      second = roomOf (length gaps) (ackedReader set last h unsent gaps .gaps);
     }
 
 abbrev pub ackNackedOf : SequenceNumberSet → SequenceNumber → ReaderProxy → List ℕ → List ℕ → Left2 AckNacked (List ℕ) (List ℕ)
@@ -98,27 +97,27 @@ abbrev pub runLeft : ℕ → ℕ → List ℕ → Left1 ℕ (List ℕ)
 runLeft n m l = record { result = n; first = roomOf m l }
 
 pub record Stayable (count : ℕ) (room : List ℕ) (last : ℕ) : Type 0 where
-  pub run : runOk 0 count room ≡ true
+  pub run : runCoherent 0 count room ≡ true
   pub top : last ≤ topNumber
 
 -- an acknowledgement that isn't refused
 pub record Ackable (h : ReaderProxy) (unsent gaps : List ℕ) (set : SequenceNumberSet) (last : ℕ) : Type 0 where
   pub fits : ackFits h unsent set ≡ true
-  pub unsent-ok : unsentOk h unsent ≡ true
-  pub gaps-ok : gapsOk h gaps ≡ true
-  pub bits : set .count ≤ 256
+  pub unsent-ok : unsentCoherent h unsent ≡ true
+  pub gaps-ok : gapsCoherent h gaps ≡ true
+  pub bits : set .count ≤ mostBits
   pub base : negative (set .base) ≡ false
   pub top : last ≤ topNumber
   pub behind : isAhead last (rankOf (set .base)) ≡ false
 
--- the head and the answer, where `total` numbers want to be unsent and so many gap members are kept
+-- the proxy and the answer, where `total` numbers want to be unsent and so many gap members are kept
 abbrev pub ackedWith : ℕ → ℕ → ℕ → ReaderProxy → AckNacked
-ackedWith low total kept h =
+ackedWith acked total kept h =
     record {
       answer = done;
       «left_out» = total - h .«unsent_cap»;
       proxy = record {
-        «all_acked_before» = numberAt low;
+        «all_acked_before» = numberAt acked;
         «unsent_cap» = h .«unsent_cap»;
         «unsent_count» = total - (total - h .«unsent_cap»);
         «gap_prefix_end» = h .«gap_prefix_end»;

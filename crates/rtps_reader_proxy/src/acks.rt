@@ -1,8 +1,10 @@
 // An ACKNACK: which numbers the reader has, and which it asks for.
-ghost use mathlib.Core.Path.{_≡_};
+ghost use mathlib.Core.Path.{_≡_, refl};
+ghost use mathlib.Core.Bool.{not};
+ghost use mathlib.Core.List.{[], _∷_};
 ghost use lib.ListN.{length, take};
 ghost use Rattle.numbers.specs.Promise.{Gives1, Gives2};
-ghost use Rattle.numbers.specs.Refusals.{answerOf};
+ghost use Rattle.numbers.specs.Refusals.{row, answerOf};
 ghost use Rattle.rtps_reader_proxy.specs.Reader.{staying};
 ghost use Rattle.rtps_reader_proxy.specs.Acks.{ackNackedOf, ackNackedAmong, ackRows, ackLeaves, ackedWith, Ackable, runLeft, Stayable};
 use crate::proxy::ReaderProxy;
@@ -11,7 +13,6 @@ use crate::proxy::room_for;
 use joined_runs::join;
 use number_sets::SequenceNumberSet;
 use numbers::Answer;
-use numbers::Rows;
 use numbers::SequenceNumber;
 use numbers::answers::earlier;
 use numbers::answers::in_turn;
@@ -41,6 +42,17 @@ fn stay(unsent: &mut [u64], count: usize, a: u64, base: u64, last: u64) -> usize
     room::keep_before(unsent, some, last + 1)
 }
 
+// The answer of an acknowledgement: 1, 3, 2, 12 or done.
+fn ack_answer(good: bool, bits: bool, range: bool, ahead: bool) -> Answer
+    ensures { λ r. ⌜ r ≡ answerOf (row 1 refl (not good) ∷ row 3 refl bits ∷ row 2 refl range ∷ row 12 refl ahead ∷ []) ⌝ }
+{
+    Answer::done()
+        .unless(ahead, Answer::AHEAD)
+        .unless(range, Answer::RANGE)
+        .unless(bits, Answer::BITS)
+        .unless(!good, Answer::INCOHERENT)
+}
+
 impl ReaderProxy {
     // The answer of an acknowledgement: 1, 3, 2, 12 or done.
     pub fn check_ack(
@@ -52,20 +64,18 @@ impl ReaderProxy {
     ) -> Answer
         ensures { λ r. ⌜ r ≡ answerOf (ackRows self (now (unsent .entry)) (now (gaps .entry)) set last) ⌝ }
     {
-        let asked = arith::smaller(set.count as usize, 256);
+        let asked = arith::smaller(set.count as usize, SequenceNumberSet::MOST_MEMBERS);
         let fits = room_for(unsent, self.unsent_count, self.unsent_cap, asked);
         let good = self.unsent_ok(unsent) & self.gaps_ok(gaps);
-        let within = last.within(9223372036854775806);
+        let within = last.within(SequenceNumber::LAST);
         let end = last.rank();
-        let mut rows = Rows::none();
-        rows.incoherent = !(fits & good);
-        rows.bits = 256 < set.count;
-        rows.range = set.base.is_negative() | !within;
-        rows.ahead = end + 1 < arith::larger(set.base.rank(), 1);
-        Answer::of(rows)
+        let bits = SequenceNumberSet::MOST_BITS < set.count;
+        let range = set.base.is_negative() | !within;
+        let ahead = end + 1 < arith::larger(set.base.rank(), 1);
+        ack_answer(fits & good, bits, range, ahead)
     }
 
-    // The head after an acknowledgement, with what is left out of `total` numbers.
+    // The proxy after an acknowledgement, with what is left out of `total` numbers.
     fn with_acked(mut self, low: u64, total: usize, kept: usize) -> AckNacked
         ensures { λ r. ⌜ r ≡ ackedWith low total kept self ⌝ }
     {
@@ -73,10 +83,9 @@ impl ReaderProxy {
         self.all_acked_before = SequenceNumber::from_rank(low);
         self.unsent_count = total - left_out;
         self.gap_count = kept;
+        let answer = Answer::done();
         AckNacked {
-            answer: Answer {
-                number: Answer::DONE,
-            },
+            answer,
             left_out,
             proxy: self,
         }

@@ -1,21 +1,22 @@
 // The requested fragments: samples, and 64 words of bits for each.
-ghost use mathlib.Core.Path.{_≡_};
+ghost use mathlib.Core.Path.{_≡_, refl};
 ghost use mathlib.Core.List.{[], _∷_};
 ghost use mathlib.Core.Bool.{not, _&&_};
 ghost use lib.Dec.{ltb};
 ghost use Rattle.numbers.specs.Number.{rankOf};
 ghost use Rattle.numbers.specs.Promise.{Gives2};
-ghost use Rattle.numbers.specs.Refusals.{row, rowsOf, answerOf};
-ghost use Rattle.rtps_reader_proxy.specs.Fragments.{fragsOk, countFrags, cannotAsk, noSlot, fragsRequestedOf, fragSentOf, nextFragOf, nextPiece, repairOf};
+ghost use Rattle.numbers.specs.Refusals.{row, answerOf};
+ghost use Rattle.rtps_reader_proxy.specs.Fragments.{fragsCoherent, countFrags, cannotAsk, noSlot, fragsRequestedOf, fragSentOf, nextFragOf, noPiece, thisPiece, repairOf};
+ghost use Rattle.numbers.specs.Answers.{answered};
 ghost use Rattle.rtps_reader_proxy.specs.Record.{roomFor, changed};
 use crate::proxy::Changed;
 use crate::proxy::ReaderProxy;
 use crate::proxy::room_for;
 use number_sets::FragmentNumberSet;
+use number_sets::SequenceNumberSet;
 use numbers::Answer;
-use numbers::Cursor;
+use numbers::FragmentCursor;
 use numbers::FragmentNumber;
-use numbers::Rows;
 use numbers::SequenceNumber;
 use requested_fragments::ask;
 use requested_fragments::table;
@@ -27,7 +28,7 @@ pub struct NextFragRequested {
     pub answer: Answer,
     pub sample: SequenceNumber,
     pub fragment: FragmentNumber,
-    pub cursor: Cursor,
+    pub cursor: FragmentCursor,
 }
 
 // A yes or no.
@@ -43,26 +44,26 @@ fn cannot_ask(n: SequenceNumber, set: FragmentNumberSet) -> bool
 {
     let base = set.base.rank();
     let good = n.is_sample();
-    let above = set.reaches(4097);
+    let above = set.reaches(FragmentNumber::PAST);
     !good | ((base == 0) | above)
 }
 
 // The answer of a question for the next fragment that found one, or met a row.
-fn next_piece(rows: Rows, n: u64, f: u64) -> NextFragRequested
-    ensures { λ r. ⌜ r ≡ nextPiece rows n f ⌝ }
+fn next_piece(answer: Answer, n: u64, f: u64) -> NextFragRequested
+    ensures { λ r. ⌜ r ≡ answered answer noPiece (thisPiece n f) ⌝ }
 {
-    let answer = Answer::of(rows);
     if answer.number != 0 {
         return NextFragRequested {
             answer,
             sample: SequenceNumber(0),
             fragment: FragmentNumber(0),
-            cursor: Cursor { from: 0 },
+            cursor: FragmentCursor { from: 0 },
         };
     }
+    let answer = Answer::done();
     let sample = SequenceNumber::from_rank(n);
     let fragment = FragmentNumber::from_rank(f);
-    let cursor = Cursor::past(f);
+    let cursor = FragmentCursor::past(f);
     NextFragRequested {
         answer,
         sample,
@@ -72,9 +73,9 @@ fn next_piece(rows: Rows, n: u64, f: u64) -> NextFragRequested
 }
 
 impl ReaderProxy {
-    // Whether the head and the rooms of the fragments are coherent.
+    // Whether the proxy and the rooms of the fragments are coherent.
     pub fn frags_ok(self, samples: &[u64], words: &[u64]) -> bool
-        ensures { λ r. ⌜ r ≡ fragsOk self (now (samples .entry)) (now (words .entry)) ⌝ }
+        ensures { λ r. ⌜ r ≡ fragsCoherent self (now (samples .entry)) (now (words .entry)) ⌝ }
     {
         let head = self.head_ok();
         let rooms = table::coherent(samples, words, self.frag_count);
@@ -91,14 +92,14 @@ impl ReaderProxy {
         range: bool,
         full: bool,
     ) -> Answer
-        ensures { λ r. ⌜ r ≡ answerOf (rowsOf (row 1 (not (fits && fragsOk self (now (samples .entry)) (now (words .entry)))) ∷ row 3 bits ∷ row 2 range ∷ row 10 full ∷ [])) ⌝ }
+        ensures { λ r. ⌜ r ≡ answerOf (row 1 refl (not (fits && fragsCoherent self (now (samples .entry)) (now (words .entry)))) ∷ row 3 refl bits ∷ row 2 refl range ∷ row 10 refl full ∷ []) ⌝ }
     {
-        let mut rows = Rows::none();
-        rows.incoherent = !(fits & self.frags_ok(samples, words));
-        rows.bits = bits;
-        rows.range = range;
-        rows.frags_full = full;
-        Answer::of(rows)
+        let good = fits & self.frags_ok(samples, words);
+        Answer::done()
+            .unless(full, Answer::FRAGS_FULL)
+            .unless(range, Answer::RANGE)
+            .unless(bits, Answer::BITS)
+            .unless(!good, Answer::INCOHERENT)
     }
 
     // Whether a request needs a slot and finds none.
@@ -107,7 +108,7 @@ impl ReaderProxy {
     {
         let size = set.size();
         let held = room::holds(samples, self.frag_count, n);
-        (16 <= self.frag_count) & ((size != 0) & !held)
+        (ReaderProxy::FRAG_SAMPLES <= self.frag_count) & ((size != 0) & !held)
     }
 
     // The answer of a request, with nothing changed: 1, 3, 2, 10 or done. A step that can't take it tells it beside its own.
@@ -118,13 +119,20 @@ impl ReaderProxy {
         n: SequenceNumber,
         set: FragmentNumberSet,
     ) -> Answer
-        ensures { λ r. ⌜ r ≡ answerOf (rowsOf (row 1 (not (roomFor 1 16 (self .«frag_count») (now (samples .entry)) && fragsOk self (now (samples .entry)) (now (words .entry)))) ∷ row 3 (ltb 256 (set .count)) ∷ row 2 (cannotAsk n set) ∷ row 10 (noSlot (rankOf n) set self (now (samples .entry)) (now (words .entry))) ∷ [])) ⌝ }
+        ensures { λ r. ⌜ r ≡ answerOf (row 1 refl (not (roomFor 1 16 (self .«frag_count») (now (samples .entry)) && fragsCoherent self (now (samples .entry)) (now (words .entry)))) ∷ row 3 refl (ltb 256 (set .count)) ∷ row 2 refl (cannotAsk n set) ∷ row 10 refl (noSlot (rankOf n) set self (now (samples .entry)) (now (words .entry))) ∷ []) ⌝ }
     {
-        let fits = room_for(samples, self.frag_count, 16, 1);
+        let fits = room_for(samples, self.frag_count, ReaderProxy::FRAG_SAMPLES, 1);
         let bits = set.count;
         let range = cannot_ask(n, set);
         let full = self.no_slot(samples, words, n.rank(), set);
-        self.check_frags(samples, words, fits, 256 < bits, range, full)
+        self.check_frags(
+            samples,
+            words,
+            fits,
+            SequenceNumberSet::MOST_BITS < bits,
+            range,
+            full,
+        )
     }
 
     fn with_frags(mut self, answer: Answer, count: usize) -> Changed
@@ -184,15 +192,13 @@ impl ReaderProxy {
         self,
         samples: &[u64],
         words: &[u64],
-        at: Cursor,
+        at: FragmentCursor,
     ) -> NextFragRequested
         ensures { λ r. ⌜ r ≡ nextFragOf at self (now (samples .entry)) (now (words .entry)) ⌝ }
     {
         let next = table::next(samples, words, self.frag_count, at.from);
-        let mut rows = Rows::none();
-        rows.incoherent = !self.frags_ok(samples, words);
-        rows.nothing = next.none;
-        next_piece(rows, next.sample, next.fragment)
+        let good = self.frags_ok(samples, words);
+        next_piece(Answer::found(good, next.none), next.sample, next.fragment)
     }
 
     // Whether any fragment is requested.

@@ -1,4 +1,4 @@
-// One reader as the writer keeps it: a small head by value, its rooms lent.
+// One reader as the writer keeps it: a small proxy by value, its rooms lent.
 pub mod acks;
 pub mod fragments;
 pub mod gaps;

@@ -1,14 +1,14 @@
 // The unsent numbers: new samples join, sent ones go.
-ghost use mathlib.Core.Path.{_≡_};
+ghost use mathlib.Core.Path.{_≡_, refl};
 ghost use mathlib.Core.List.{[], _∷_};
 ghost use mathlib.Core.Bool.{true, not, _&&_};
 ghost use lib.Dec.{eqb};
 ghost use lib.ListN.{length};
-ghost use Rattle.rising.specs.Runs.{runOk, inRoom, newest};
+ghost use Rattle.rising.specs.Runs.{runCoherent, inRoom, newest};
 ghost use Rattle.numbers.specs.Cursor.{cursorAt, nextNumber};
 ghost use Rattle.numbers.specs.Promise.{Gives1, Gives2};
-ghost use Rattle.numbers.specs.Refusals.{row, rowsOf, answerOf};
-ghost use Rattle.rtps_reader_proxy.specs.Record.{unsentOk, changed};
+ghost use Rattle.numbers.specs.Refusals.{row, answerOf};
+ghost use Rattle.rtps_reader_proxy.specs.Record.{unsentCoherent, changed};
 ghost use Rattle.rtps_reader_proxy.specs.Unsent.{notifiedOf, markedSentOf, removedBeforeOf, takenOf, nextUnsentOf, countUnsent, tookOf};
 use crate::proxy::Changed;
 use crate::proxy::ReaderProxy;
@@ -17,7 +17,6 @@ use crate::proxy::room_for;
 use numbers::Answer;
 use numbers::Cursor;
 use numbers::NextNumber;
-use numbers::Rows;
 use numbers::SequenceNumber;
 use numbers::arith;
 use rising::room;
@@ -32,7 +31,7 @@ pub struct Taken {
 
 // n joins a run; where there is no room the smallest goes. A new sample's number is above all that are held, and stands after them.
 fn join_newest(s: &mut [u64], count: usize, n: u64) -> usize
-    requires { ⌜ runOk 0 count (now s) ≡ true ⌝ }
+    requires { ⌜ runCoherent 0 count (now s) ≡ true ⌝ }
     ensures { λ r. ⌜ Gives1 r (now (s .exit)) (inRoom (newest (length (now (s .entry))) n) count (now (s .entry))) ⌝ }
 {
     let last = last_of(s, count);
@@ -48,12 +47,12 @@ fn join_newest(s: &mut [u64], count: usize, n: u64) -> usize
 impl ReaderProxy {
     // The answer of a call that is lent the unsent room, where `fits` says whether what joins has room: 1, 2 or done.
     fn check_unsent(self, unsent: &[u64], fits: bool, range: bool) -> Answer
-        ensures { λ r. ⌜ r ≡ answerOf (rowsOf (row 1 (not (fits && unsentOk self (now (unsent .entry)))) ∷ row 2 range ∷ [])) ⌝ }
+        ensures { λ r. ⌜ r ≡ answerOf (row 1 refl (not (fits && unsentCoherent self (now (unsent .entry)))) ∷ row 2 refl range ∷ []) ⌝ }
     {
-        let mut rows = Rows::none();
-        rows.incoherent = !(fits & self.unsent_ok(unsent));
-        rows.range = range;
-        Answer::of(rows)
+        let good = fits & self.unsent_ok(unsent);
+        Answer::done()
+            .unless(range, Answer::RANGE)
+            .unless(!good, Answer::INCOHERENT)
     }
 
     fn with_unsent(mut self, answer: Answer, count: usize) -> Changed
@@ -79,12 +78,10 @@ impl ReaderProxy {
 
     // The answer with n, the first of the unsent numbers that are looked at, or 0 where there is none.
     fn next_is(self, unsent: &[u64], n: u64) -> NextNumber
-        ensures { λ r. ⌜ r ≡ nextNumber (rowsOf (row 1 (not (unsentOk self (now (unsent .entry)))) ∷ row 14 (eqb n 0) ∷ [])) n ⌝ }
+        ensures { λ r. ⌜ r ≡ nextNumber (row 1 refl (not (unsentCoherent self (now (unsent .entry)))) ∷ row 14 refl (eqb n 0) ∷ []) n ⌝ }
     {
-        let mut rows = Rows::none();
-        rows.incoherent = !self.unsent_ok(unsent);
-        rows.nothing = n == 0;
-        NextNumber::of(rows, n)
+        let good = self.unsent_ok(unsent);
+        NextNumber::of(Answer::found(good, n == 0), n)
     }
 
     // The first unsent number at or after the cursor, and the cursor past it.

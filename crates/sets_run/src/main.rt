@@ -3,6 +3,7 @@ use libc::STDOUT_FILENO;
 use number_sets::FragmentNumberSet;
 use number_sets::SequenceNumberSet;
 use numbers::Cursor;
+use numbers::FragmentCursor;
 use numbers::FragmentNumber;
 use numbers::SequenceNumber;
 
@@ -51,7 +52,7 @@ fn next(s: SequenceNumberSet, from: u64, answer: u32, number: i64, past: u64) ->
 }
 
 fn next_fragment(s: FragmentNumberSet, from: u64, answer: u32, number: u32, past: u64) -> bool {
-    let r = s.next_member(Cursor { from });
+    let r = s.next_member(FragmentCursor { from });
     let n = r.number;
     (r.answer.number == answer) & (n.0 == number) & (r.cursor.from == past)
 }

@@ -3,7 +3,7 @@ ghost use mathlib.Core.Path.{_≡_};
 ghost use Rattle.numbers.specs.Promise.{Gives2};
 ghost use Rattle.rtps_reader_proxy.specs.Fragments.{fragsRequestedOf, fragSentOf, nextFragOf, repairOf};
 use number_sets::FragmentNumberSet;
-use numbers::Cursor;
+use numbers::FragmentCursor;
 use numbers::FragmentNumber;
 use numbers::SequenceNumber;
 use rtps_reader_proxy::ReaderProxy;
@@ -42,7 +42,7 @@ pub extern "C" fn sintemuno_reader_next_frag_requested(
     proxy: ReaderProxy,
     samples: &[u64],
     words: &[u64],
-    at: Cursor,
+    at: FragmentCursor,
 ) -> NextFragRequested
     ensures { λ r. ⌜ r ≡ nextFragOf at proxy (now (samples .entry)) (now (words .entry)) ⌝ }
 {

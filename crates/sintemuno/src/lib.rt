@@ -1,4 +1,4 @@
-// The C boundary: each call under a name of its own, on numbers, repr(C) heads and lent slices.
+// The C boundary: each call under a name of its own, on numbers, repr(C) structs and lent slices.
 pub mod fragments;
 pub mod list;
 pub mod reader;

@@ -1,8 +1,8 @@
-// The reader record: acknowledged and unsent numbers, and the pending gap. The head goes by value and comes back, the rooms are lent.
+// The reader record: acknowledged and unsent numbers, and the pending gap. The proxy goes by value and comes back, the rooms are lent.
 ghost use mathlib.Core.Path.{_≡_};
 ghost use Rattle.numbers.specs.Cursor.{cursorAt};
 ghost use Rattle.numbers.specs.Promise.{Gives1, Gives2};
-ghost use Rattle.rtps_reader_proxy.specs.Unsent.{newOf, notifiedOf, markedSentOf, removedBeforeOf, takenOf, nextUnsentOf};
+ghost use Rattle.rtps_reader_proxy.specs.Unsent.{newProxyOf, notifiedOf, markedSentOf, removedBeforeOf, takenOf, nextUnsentOf};
 ghost use Rattle.rtps_reader_proxy.specs.Acks.{ackNackedOf};
 ghost use Rattle.rtps_reader_proxy.specs.Gaps.{gapInsertedOf, gapUpToOf, nextGapOf};
 use number_sets::SequenceNumberSet;
@@ -16,7 +16,7 @@ use rtps_reader_proxy::unsent::Taken;
 
 #[no_mangle]
 pub extern "C" fn sintemuno_reader_new(cap: usize) -> Changed
-    ensures { λ r. ⌜ r ≡ newOf cap ⌝ }
+    ensures { λ r. ⌜ r ≡ newProxyOf cap ⌝ }
 {
     ReaderProxy::new(cap)
 }

@@ -2,13 +2,15 @@
 ghost use mathlib.Core.Path.{_≡_};
 ghost use Rattle.numbers.specs.Promise.{Gives1};
 ghost use Rattle.number_sets.specs.Bits.{members};
-ghost use Rattle.number_sets.specs.Calls.{sequenceSet, sequenceRows, fragmentSet, fragmentRows, listed, nextMember, nextFragmentMember, ofNumbers, ofFragments};
+ghost use Rattle.number_sets.specs.Calls.{sequenceSet, sequenceRows, fragmentSet, fragmentRows, membersListed};
+ghost use Rattle.number_sets.specs.Calls.{nextMember, nextFragmentMember, ofNumbers, ofFragments};
 use number_sets::FragmentNumberSet;
 use number_sets::Listed;
 use number_sets::SequenceNumberSet;
 use number_sets::WrittenFragments;
 use number_sets::WrittenNumbers;
 use numbers::Cursor;
+use numbers::FragmentCursor;
 use numbers::FragmentNumber;
 use numbers::NextFragment;
 use numbers::NextNumber;
@@ -23,7 +25,7 @@ pub extern "C" fn sintemuno_set_of_numbers(base: SequenceNumber, numbers: &[u64]
 
 #[no_mangle]
 pub extern "C" fn sintemuno_set_list_members(set: SequenceNumberSet, out: &mut [u64]) -> Listed
-    ensures { λ r. ⌜ Gives1 r (now (out .exit)) (listed (sequenceRows set) (members (sequenceSet set)) (now (out .entry))) ⌝ }
+    ensures { λ r. ⌜ Gives1 r (now (out .exit)) (membersListed (sequenceRows set) (members (sequenceSet set)) (now (out .entry))) ⌝ }
 {
     set.list_members(out)
 }
@@ -50,7 +52,7 @@ pub extern "C" fn sintemuno_fragment_set_list_members(
     set: FragmentNumberSet,
     out: &mut [u64],
 ) -> Listed
-    ensures { λ r. ⌜ Gives1 r (now (out .exit)) (listed (fragmentRows set) (members (fragmentSet set)) (now (out .entry))) ⌝ }
+    ensures { λ r. ⌜ Gives1 r (now (out .exit)) (membersListed (fragmentRows set) (members (fragmentSet set)) (now (out .entry))) ⌝ }
 {
     set.list_members(out)
 }
@@ -58,7 +60,7 @@ pub extern "C" fn sintemuno_fragment_set_list_members(
 #[no_mangle]
 pub extern "C" fn sintemuno_fragment_set_next_member(
     set: FragmentNumberSet,
-    at: Cursor,
+    at: FragmentCursor,
 ) -> NextFragment
     ensures { λ r. ⌜ r ≡ nextFragmentMember set at ⌝ }
 {

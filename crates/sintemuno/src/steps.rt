@@ -61,7 +61,7 @@ pub extern "C" fn sintemuno_send_many(
     send_many(flow, room, lens, proxy, unsent, numbers, starts, lengths)
 }
 
-// A write that tells every reader: the heads side by side in `proxies`, the unsent rooms in `unsent`, a stretch for each.
+// A write that tells every reader: the proxies side by side in `proxies`, the unsent rooms in `unsent`, a stretch for each.
 #[no_mangle]
 pub extern "C" fn sintemuno_write(
     flow: &mut WriterSendBuffer,

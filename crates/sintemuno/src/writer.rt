@@ -1,7 +1,7 @@
 // The send buffer: the flow record is changed in place, and goes by value to questions; the store and its lengths are lent.
 ghost use mathlib.Core.Path.{_≡_};
 ghost use Rattle.numbers.specs.Promise.{Gives1, Gives3};
-ghost use Rattle.writer_send_buffer.specs.Buffer.{newOf, roomOf, firstOf, lastOf, ackedOf, sentOf, evictOf, throughOf};
+ghost use Rattle.writer_send_buffer.specs.Buffer.{newFlowOf, hasRoomOf, firstOf, lastOf, ackedOf, sentOf, evictOf, throughOf};
 ghost use Rattle.writer_send_buffer.specs.Samples.{admitOf, locateOf};
 use numbers::Answer;
 use numbers::SequenceNumber;
@@ -16,14 +16,14 @@ use writer_send_buffer::WriterSendBuffer;
 
 #[no_mangle]
 pub extern "C" fn sintemuno_writer_new(kind: Kind, limits: Limits) -> Moved
-    ensures { λ r. ⌜ r ≡ newOf kind limits ⌝ }
+    ensures { λ r. ⌜ r ≡ newFlowOf kind limits ⌝ }
 {
     WriterSendBuffer::new(kind, limits)
 }
 
 #[no_mangle]
 pub extern "C" fn sintemuno_writer_has_room(flow: WriterSendBuffer, opted: bool) -> Told
-    ensures { λ r. ⌜ r ≡ roomOf flow opted ⌝ }
+    ensures { λ r. ⌜ r ≡ hasRoomOf flow opted ⌝ }
 {
     flow.has_room(opted)
 }

@@ -11,12 +11,12 @@ use Rattle.numbers.specs.Refusals.{isDone}
 use Rattle.numbers.specs.Promise.{Left3}
 use Rattle.writer_send_buffer.specs.declared.flow.WriterSendBuffer.{WriterSendBuffer}
 use Rattle.writer_send_buffer.specs.declared.flow.Moved.{Moved}
-use Rattle.writer_send_buffer.specs.Buffer.{newOf}
+use Rattle.writer_send_buffer.specs.Buffer.{newFlowOf}
 use Rattle.trace_lines.specs.Lines.{Said, op-new, op-match, op-write, op-ack, op-sent, op-frag, op-evict, unknown, said}
 use Rattle.trace_text.specs.Answers.{answerText}
 use Rattle.trace_readers.specs.declared.state.Trace.{Trace}
 use Rattle.trace_readers.specs.declared.state.Followed.{Followed}
-use Rattle.trace_readers.specs.State.{begun, refusedBy, notUnderstood, withFlow}
+use Rattle.trace_readers.specs.State.{traceBegun, refusedBy, notUnderstood, traceWithFlow}
 use Rattle.trace_run.specs.Writer.{kindOf, limitsOf}
 use Rattle.trace_run.specs.Follow.{noRoom, firstLine, laterLine, followOf}
 use Rattle.trace_answers.specs.Shown.{followHeld, shownText}
@@ -24,10 +24,10 @@ use Rattle.trace_answers.specs.Shown.{followHeld, shownText}
 -- no line has made the writer
 pub record Unmade (t : Trace) : Type 0 where
   pub started : t .started ≡ false
-  pub flow : t .flow ≡ begun .flow
+  pub flow : t .flow ≡ traceBegun .flow
 
 -- so it is at first
-pub unmade-at-first : Unmade begun
+pub unmade-at-first : Unmade traceBegun
 unmade-at-first = record { started = refl; flow = refl }
 
 -- it is made, or it isn't yet
@@ -43,12 +43,12 @@ pub unmade-still : (held : ℕ) (line : List ℕ) (t : Trace) (store large small
     → (followHeld held line t store large small .result .trace .started ≡ true) ⊎ Unmade (followHeld held line t store large small .result .trace)
 unmade-still held line t store large small u = go (ltb (length line) held)
   where
-    made : (m : Moved) (d : Bool) → MadeOrNot (cond d (record { answer = m .answer; trace = withFlow (m .flow) (t .heads) t }) (refusedBy (m .answer) t) .trace)
+    made : (m : Moved) (d : Bool) → MadeOrNot (cond d (record { answer = m .answer; trace = traceWithFlow (m .flow) (t .heads) t }) (refusedBy (m .answer) t) .trace)
     made m true = inl refl
     made m false = inr u
 
     first : (c : Said) → MadeOrNot (firstLine c t .trace)
-    first (op-new w b r s) = made (newOf kindOf (limitsOf w b r s)) (isDone (newOf kindOf (limitsOf w b r s) .answer))
+    first (op-new w b r s) = made (newFlowOf kindOf (limitsOf w b r s)) (isDone (newFlowOf kindOf (limitsOf w b r s) .answer))
     first (op-match id) = inr u
     first (op-write len) = inr u
     first (op-ack id base l) = inr u

@@ -22,7 +22,7 @@ use Rattle.trace_run.specs.Follow.{noRoom, followOf}
 use Rattle.trace_answers.specs.declared.input.Answering.{Answering}
 use Rattle.trace_answers.specs.Shown.{followHeld, shownText}
 use Rattle.trace_answers.specs.Input.{Left5, Standing, nextLine, heldNow, withCut, answeredBy, cutBy, answerLine}
-use Rattle.trace_answers.specs.Text.{linesFrom, Kept, followLine, keptBy, answersTo, keptIn, hasPut, toCome}
+use Rattle.trace_answers.specs.Text.{linesFrom, TraceKept, followLine, keptBy, answersTo, keptIn, hasPut, toCome}
 
 -- the bytes past a line's end
 abbrev pub pastIn : List ℕ → List ℕ
@@ -64,7 +64,7 @@ cut-length (b ∷ s) room at n = go (eqb b 10) (cut-length s (set room n b) (at 
     go false h = h
 
 -- a line held is the line
-pub follow-holds : (room l : List ℕ) (n : ℕ) (k : Kept) → Holds room n l → followHeld n room (k .trace) (k .store) (k .large) (k .small) ≡ followLine (length room) l k
+pub follow-holds : (room l : List ℕ) (n : ℕ) (k : TraceKept) → Holds room n l → followHeld n room (k .trace) (k .store) (k .large) (k .small) ≡ followLine (length room) l k
 follow-holds room l n k h = go (ltb (length room) n) refl
   where
     go : (t : Bool) → ltb (length room) n ≡ t → followHeld n room (k .trace) (k .store) (k .large) (k .small) ≡ followLine (length room) l k
@@ -128,7 +128,7 @@ pub record Same (o p : Standing) (l m s t : List ℕ) : Type 0 where
   pub out : length (p .second) ≡ length (o .second)
 
 -- a line's answer was to come, and has been put
-moved : (most most' : ℕ) (k : Kept) (l : List ℕ) (rest : List (List ℕ)) (p q : List ℕ) (f : Left3 Followed (List ℕ) (List ℕ) (List ℕ)) → f ≡ followLine most l k → most' ≡ most
+moved : (most most' : ℕ) (k : TraceKept) (l : List ℕ) (rest : List (List ℕ)) (p q : List ℕ) (f : Left3 Followed (List ℕ) (List ℕ) (List ℕ)) → f ≡ followLine most l k → most' ≡ most
     → q ≡ p ++ shownText (nextLine (k .lines)) (f .result) → p ++ answersTo most k (l ∷ rest) ≡ q ++ answersTo most' (keptBy f (k .lines)) rest
 moved most most' k l rest p q f e m g =
     ap (λ (x : Left3 Followed (List ℕ) (List ℕ) (List ℕ)). p ++ (shownText (nextLine (k .lines)) (x .result) ++ answersTo most (keptBy x (k .lines)) rest)) (sym e)

@@ -15,7 +15,7 @@ use Rattle.trace_text.proofs.LineLaws.{cut-ended, holds-none}
 use Rattle.trace_answers.specs.declared.input.Answering.{Answering}
 use Rattle.trace_answers.specs.Shown.{followHeld}
 use Rattle.trace_answers.specs.Input.{Left5, Standing, nextPiece, nothingWaits, heldNow, isOpen, withCut, answeredBy, goesOn, answerLines}
-use Rattle.trace_answers.specs.Text.{linesFrom, answersTo, keptIn, hasPut, toCome, turned, standing, comesNext, later, output, enough, textOf, standingNone}
+use Rattle.trace_answers.specs.Text.{linesFrom, answersTo, keptIn, hasPut, toCome, turned, standingWith, comesNext, later, output, enough, textOf, standingNone}
 use Rattle.trace_answers.proofs.PieceLaws.{oneMore, more-there, line-goes}
 use Rattle.trace_answers.proofs.LineMeaning.{Same, pastIn, cut-past, ended-same, open-same}
 
@@ -115,7 +115,7 @@ turn-further o l (b ∷ s) h e = further (length s) (b ∷ s) o (goes-on o l (b 
 
 -- what was put in a turn, and what is to come after it, was to come before it
 turn-same : (o : Standing) (l piece u : List ℕ) → Ready o l
-    → (m : List ℕ) × Ready (standing (nothingWaits (turned piece o .result)) (turned piece o)) m
+    → (m : List ℕ) × Ready (standingWith (nothingWaits (turned piece o .result)) (turned piece o)) m
     × (hasPut (turned piece o) ++ toCome (turned piece o) m (drop (turned piece o .result .cut .at) piece ++ u) ≡ toCome o l (drop (o .result .cut .at) piece ++ u))
 turn-same o l piece u h =
     let g = lines-same (length piece) piece l u o (h .holds) in
@@ -131,9 +131,9 @@ turn-same o l piece u h =
 idle : (k : ℕ) (o : Standing) → isOpen (o .result) ≡ false → output k [] [] o ≡ []
 idle zero o e = refl
 idle (suc k) o e =
-    ap (λ (b : Bool). cond b (hasPut (turned [] o) ++ output k [] [] (standing (nothingWaits (turned [] o .result)) (turned [] o))) (output k (comesNext (isOpen (o .result)) []) [] (standing (nextPiece (o .result)) o))) (le-ltb (o .result .cut .at) 0 (omega arith))
-    ∙ ap (λ (b : Bool). output k (cond b (10 ∷ []) []) [] (standing (nextPiece (o .result)) o)) e
-    ∙ idle k (standing (nextPiece (o .result)) o) e
+    ap (λ (b : Bool). cond b (hasPut (turned [] o) ++ output k [] [] (standingWith (nothingWaits (turned [] o .result)) (turned [] o))) (output k (comesNext (isOpen (o .result)) []) [] (standingWith (nextPiece (o .result)) o))) (le-ltb (o .result .cut .at) 0 (omega arith))
+    ∙ ap (λ (b : Bool). output k (cond b (10 ∷ []) []) [] (standingWith (nextPiece (o .result)) o)) e
+    ∙ idle k (standingWith (nextPiece (o .result)) o) e
 
 not-false : (b : Bool) → not b ≡ false → b ≡ true
 not-false true e = refl
@@ -154,11 +154,11 @@ last-line : (l : List ℕ) → (length l ≡ 0 → ⊥) → linesFrom l [] ≡ l
 last-line l h = ap (λ (b : Bool). cond b [] (l ∷ [])) (ne-eqb (length l) 0 h)
 
 -- the turn that does so, and those after it
-newline : (k : ℕ) (o : Standing) (l : List ℕ) → Ready o l → output (suc (suc k)) (10 ∷ []) [] (standing (nextPiece (o .result)) o) ≡ toCome o l (10 ∷ [])
+newline : (k : ℕ) (o : Standing) (l : List ℕ) → Ready o l → output (suc (suc k)) (10 ∷ []) [] (standingWith (nextPiece (o .result)) o) ≡ toCome o l (10 ∷ [])
 newline k o l h = ap after taken ∙ ap (λ (x : List ℕ). hasPut one ++ x) (idle k _ refl) ∙ sym all
   where
     n : Standing
-    n = standing (nextPiece (o .result)) o
+    n = standingWith (nextPiece (o .result)) o
 
     ready : Ready n l
     ready = record { holds = h .holds; clear = h .clear; room = h .room }
@@ -170,11 +170,11 @@ newline k o l h = ap after taken ∙ ap (λ (x : List ℕ). hasPut one ++ x) (id
     taken = ap (λ (b : Bool). cond b one n) (goes-on n l (10 ∷ []) ready refl)
 
     after : Standing → List ℕ
-    after x = hasPut x ++ output (suc k) (10 ∷ []) [] (standing (nothingWaits (x .result)) x)
+    after x = hasPut x ++ output (suc k) (10 ∷ []) [] (standingWith (nothingWaits (x .result)) x)
 
     Come : Standing → Type 0
     Come x =
-        (m : List ℕ) × Ready (standing (nothingWaits (x .result)) x) m
+        (m : List ℕ) × Ready (standingWith (nothingWaits (x .result)) x) m
         × (hasPut x ++ toCome x m (drop (x .result .cut .at) (10 ∷ []) ++ []) ≡ toCome n l (10 ∷ []))
 
     come : Come one
@@ -201,7 +201,7 @@ one-more-turn k rest p ps o l h e = go (ltb (o .result .cut .at) (length p)) ref
     t = turned p o
 
     next : Standing
-    next = standing (nextPiece (o .result)) o
+    next = standingWith (nextPiece (o .result)) o
 
     ready : Ready next l
     ready = record { holds = h .holds; clear = h .clear; room = h .room }
@@ -224,13 +224,13 @@ one-more-turn k rest p ps o l h e = go (ltb (o .result .cut .at) (length p)) ref
         atEnd true x = last k f x
 
     go : (b : Bool) → ltb (o .result .cut .at) (length p) ≡ b
-        → cond b (hasPut t ++ output k p ps (standing (nothingWaits (t .result)) t)) (output k (comesNext (isOpen (o .result)) ps) (later ps) next)
+        → cond b (hasPut t ++ output k p ps (standingWith (nothingWaits (t .result)) t)) (output k (comesNext (isOpen (o .result)) ps) (later ps) next)
         ≡ toCome o l (drop (o .result .cut .at) p ++ textOf ps)
     go true x =
         let s = turn-same o l p (textOf ps) h in
         let f = turn-further o l p h x in
         let w = ltb-true (o .result .cut .at) (length p) x in
-        ap (λ (y : List ℕ). hasPut t ++ y) (rest p ps (standing (nothingWaits (t .result)) t) (s .0) (s .1) (omega arith)) ∙ s .2
+        ap (λ (y : List ℕ). hasPut t ++ y) (rest p ps (standingWith (nothingWaits (t .result)) t) (s .0) (s .1) (omega arith)) ∙ s .2
     go false x =
         let w = ltb-false (o .result .cut .at) (length p) x in
         ended ps (omega arith) ∙ sym (ap (λ (y : List ℕ). toCome o l (y ++ textOf ps)) (done p (o .result .cut .at) w))

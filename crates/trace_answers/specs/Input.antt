@@ -12,7 +12,7 @@ use Rattle.trace_text.specs.Cuts.{cutOf}
 use Rattle.trace_text.specs.Answers.{putOf}
 use Rattle.trace_readers.specs.declared.state.Trace.{Trace}
 use Rattle.trace_readers.specs.declared.state.Followed.{Followed}
-use Rattle.trace_readers.specs.State.{begun, refusedBy}
+use Rattle.trace_readers.specs.State.{traceBegun, refusedBy}
 use Rattle.trace_answers.specs.declared.input.Answering.{Answering}
 use Rattle.trace_answers.specs.Shown.{followHeld, shownText}
 
@@ -39,7 +39,7 @@ Standing = Left5 Answering (List ℕ) (List ℕ) (List ℕ) (List ℕ) (List ℕ
 
 -- before the input's first byte
 abbrev pub answeringNone : Answering
-answeringNone = record { followed = refusedBy done begun; cut = record { at = 0; held = 0; ended = false }; lines = 0; filled = 0 }
+answeringNone = record { followed = refusedBy done traceBegun; cut = record { at = 0; held = 0; ended = false }; lines = 0; filled = 0 }
 
 -- the number of the next line, as long as 64 bits hold it
 abbrev pub nextLine : ℕ → ℕ

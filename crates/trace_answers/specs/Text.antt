@@ -19,7 +19,7 @@ linesFrom l [] = cond (eqb (length l) 0) [] (l ∷ [])
 linesFrom l (b ∷ s) = cond (eqb b 10) (l ∷ linesFrom [] s) (linesFrom (l ++ (b ∷ [])) s)
 
 -- what is kept from line to line: the trace, how many lines it has answered, and its rooms
-pub record Kept : Type 0 where
+pub record TraceKept : Type 0 where
   pub trace : Trace
   pub lines : ℕ
   pub store : List ℕ
@@ -27,22 +27,22 @@ pub record Kept : Type 0 where
   pub small : List ℕ
 
 -- a line of at most `most` bytes is followed; a longer one isn't understood
-abbrev pub followLine : ℕ → List ℕ → Kept → Left3 Followed (List ℕ) (List ℕ) (List ℕ)
+abbrev pub followLine : ℕ → List ℕ → TraceKept → Left3 Followed (List ℕ) (List ℕ) (List ℕ)
 followLine most l k =
     cond (ltb most (length l))
     (noRoom (refusedBy notUnderstood (k .trace)) (k .store) (k .large) (k .small))
     (followOf l (k .trace) (k .store) (k .large) (k .small))
 
-abbrev pub keptBy : Left3 Followed (List ℕ) (List ℕ) (List ℕ) → ℕ → Kept
+abbrev pub keptBy : Left3 Followed (List ℕ) (List ℕ) (List ℕ) → ℕ → TraceKept
 keptBy f n = record { trace = f .result .trace; lines = nextLine n; store = f .first; large = f .second; small = f .third }
 
 -- THE ANSWERS TO LINES, one after the other
-abbrev pub answersTo : ℕ → Kept → List (List ℕ) → List ℕ
+abbrev pub answersTo : ℕ → TraceKept → List (List ℕ) → List ℕ
 answersTo most k [] = []
 answersTo most k (l ∷ ls) = shownText (nextLine (k .lines)) (followLine most l k .result) ++ answersTo most (keptBy (followLine most l k) (k .lines)) ls
 
 -- how the answering stands: what it keeps, what it has put, and what is to come where the line's bytes l are held and the bytes s are left
-abbrev pub keptIn : Standing → Kept
+abbrev pub keptIn : Standing → TraceKept
 keptIn o = record { trace = o .result .followed .trace; lines = o .result .lines; store = o .third; large = o .fourth; small = o .fifth }
 
 abbrev pub hasPut : Standing → List ℕ
@@ -55,8 +55,8 @@ toCome o l s = answersTo (length (o .first)) (keptIn o) (linesFrom l s)
 abbrev pub turned : List ℕ → Standing → Standing
 turned p o = answerPiece (o .result) p (o .first) (o .second) (o .third) (o .fourth) (o .fifth)
 
-abbrev pub standing : Answering → Standing → Standing
-standing r o = record { result = r; first = o .first; second = o .second; third = o .third; fourth = o .fourth; fifth = o .fifth }
+abbrev pub standingWith : Answering → Standing → Standing
+standingWith r o = record { result = r; first = o .first; second = o .second; third = o .third; fourth = o .fourth; fifth = o .fifth }
 
 -- the piece that comes next, of those to come. The input's end ends a line that has begun, as a newline does
 abbrev pub comesNext : Bool → List (List ℕ) → List ℕ
@@ -73,8 +73,8 @@ abbrev pub output : ℕ → List ℕ → List (List ℕ) → Standing → List �
 output zero p ps o = []
 output (suc k) p ps o =
     cond (ltb (o .result .cut .at) (length p))
-    (hasPut (turned p o) ++ output k p ps (standing (nothingWaits (turned p o .result)) (turned p o)))
-    (output k (comesNext (isOpen (o .result)) ps) (later ps) (standing (nextPiece (o .result)) o))
+    (hasPut (turned p o) ++ output k p ps (standingWith (nothingWaits (turned p o .result)) (turned p o)))
+    (output k (comesNext (isOpen (o .result)) ps) (later ps) (standingWith (nextPiece (o .result)) o))
 
 -- so many turns are enough: one for each byte, one to come to each piece, and three for the end
 abbrev pub enough : List (List ℕ) → ℕ

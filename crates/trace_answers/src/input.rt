@@ -37,9 +37,7 @@ impl Answering {
     pub fn start() -> Answering
         ensures { λ r. ⌜ r ≡ answeringNone ⌝ }
     {
-        let followed = Trace::start().refused(Answer {
-            number: Answer::DONE,
-        });
+        let followed = Trace::start().refused(Answer::done());
         let cut = Cut {
             at: 0,
             held: 0,

@@ -14,22 +14,22 @@ use Rattle.sets.proofs.Loops.{here, done}
 use Rattle.sets.proofs.Bools.{and-left, and-right}
 use Rattle.trace_lines.specs.declared.Place.{Place}
 use Rattle.trace_lines.specs.declared.Number.{Number}
-use Rattle.trace_lines.specs.Words.{Rest, rest, bad, past, Read, nothing, isDigit, upTo63, digits, numberIn, numberOf, restOf, noNumber, numberTo, readOf}
+use Rattle.trace_lines.specs.Words.{Rest, rest, bad, pastKey, Read, nothing, isDigit, upTo63, digitsRead, numberIn, numberOf, restOf, notANumber, numberTo, readOf}
 
 -- ---- a key
 module _ (k s : List ℕ) (at j : ℕ) where
-  pub past-more : j < length k → at + j < length s → getD s (at + j) 0 ≡ getD k j 0 → past (drop j k) (drop (at + j) s) ≡ past (drop (j + 1) k) (drop (at + (j + 1)) s)
+  pub past-more : j < length k → at + j < length s → getD s (at + j) 0 ≡ getD k j 0 → pastKey (drop j k) (drop (at + j) s) ≡ pastKey (drop (j + 1) k) (drop (at + (j + 1)) s)
   past-more h g e =
       let q : at + (j + 1) ≡ at + j + 1 = omega arith in
       rw (here k j h, here s (at + j) g, eq-eqb _ _ e, q)
 
-  pub past-other : j < length k → at + j < length s → (getD s (at + j) 0 ≡ getD k j 0 → ⊥) → past (drop j k) (drop (at + j) s) ≡ bad
+  pub past-other : j < length k → at + j < length s → (getD s (at + j) 0 ≡ getD k j 0 → ⊥) → pastKey (drop j k) (drop (at + j) s) ≡ bad
   past-other h g e = rw (here k j h, here s (at + j) g, ne-eqb _ _ e)
 
-  pub past-short : j < length k → length s ≤ at + j → past (drop j k) (drop (at + j) s) ≡ bad
+  pub past-short : j < length k → length s ≤ at + j → pastKey (drop j k) (drop (at + j) s) ≡ bad
   past-short h g = rw (here k j h, done s (at + j) g)
 
-  pub past-all : length k ≤ j → past (drop j k) (drop (at + j) s) ≡ rest (drop (at + j) s)
+  pub past-all : length k ≤ j → pastKey (drop j k) (drop (at + j) s) ≡ rest (drop (at + j) s)
   past-all h = rw (done k j h)
 
 pub digit-low : (b : ℕ) → isDigit b ≡ true → 48 ≤ b
@@ -39,26 +39,26 @@ pub digit-high : (b : ℕ) → isDigit b ≡ true → b ≤ 57
 digit-high b h = leb-true _ _ (and-right (leb 48 b) (leb b 57) h)
 
 module _ (s : List ℕ) (i : ℕ) (v : ℕ) where
-  pub digits-more : (k : ℕ) → i < length s → isDigit (getD s i 0) ≡ true → (k ≡ 0 → ⊥) → digits k v (drop i s) ≡ digits (k - 1) (v * 10 + (getD s i 0 - 48)) (drop (i + 1) s)
+  pub digits-more : (k : ℕ) → i < length s → isDigit (getD s i 0) ≡ true → (k ≡ 0 → ⊥) → digitsRead k v (drop i s) ≡ digitsRead (k - 1) (v * 10 + (getD s i 0 - 48)) (drop (i + 1) s)
   digits-more zero h d n = absurd (n refl)
   digits-more (suc k) h d n =
       let q : suc k - 1 ≡ k = omega arith in
       rw (here s i h, d, q)
 
-  pub digits-long : (k : ℕ) → i < length s → isDigit (getD s i 0) ≡ true → k ≡ 0 → digits k v (drop i s) ≡ nothing
+  pub digits-long : (k : ℕ) → i < length s → isDigit (getD s i 0) ≡ true → k ≡ 0 → digitsRead k v (drop i s) ≡ nothing
   digits-long k h d n = rw (n, here s i h, d)
 
-  pub digits-other : (k : ℕ) → i < length s → isDigit (getD s i 0) ≡ false → digits k v (drop i s) ≡ upTo63 v (drop i s)
+  pub digits-other : (k : ℕ) → i < length s → isDigit (getD s i 0) ≡ false → digitsRead k v (drop i s) ≡ upTo63 v (drop i s)
   digits-other zero h d = rw (here s i h, d)
   digits-other (suc k) h d = rw (here s i h, d)
 
-  pub digits-end : (k : ℕ) → length s ≤ i → digits k v (drop i s) ≡ upTo63 v (drop i s)
+  pub digits-end : (k : ℕ) → length s ≤ i → digitsRead k v (drop i s) ≡ upTo63 v (drop i s)
   digits-end k h = rw (done s i h)
 
   pub to-is : readOf s (numberTo v i) ≡ upTo63 v (drop i s)
   to-is = go (ltb v 9223372036854775808)
     where
-      go : (t : Bool) → readOf s (cond t (record { value = v; next = record { at = i; ok = true } }) noNumber) ≡ cond t (record { value = v; after = rest (drop i s) }) nothing
+      go : (t : Bool) → readOf s (cond t (record { value = v; next = record { at = i; ok = true } }) notANumber) ≡ cond t (record { value = v; after = rest (drop i s) }) nothing
       go true = refl
       go false = refl
 
@@ -81,7 +81,7 @@ fits-one v k h = le-trans (rw mul-one at (mul-le-mul-left v (pow-some k))) h
 pub to-small : (v i : ℕ) → numberTo v i .value < 9223372036854775808
 to-small v i = go (ltb v 9223372036854775808) refl
   where
-    go : (t : Bool) → ltb v 9223372036854775808 ≡ t → cond t (record { value = v; next = record { at = i; ok = true } }) noNumber .value < 9223372036854775808
+    go : (t : Bool) → ltb v 9223372036854775808 ≡ t → cond t (record { value = v; next = record { at = i; ok = true } }) notANumber .value < 9223372036854775808
     go true e = ltb-true v 9223372036854775808 e
     go false e = omega arith
 

@@ -15,7 +15,7 @@ use Rattle.trace_lines.specs.declared.Place.{Place}
 use Rattle.trace_lines.specs.declared.Number.{Number}
 use Rattle.trace_lines.specs.declared.set.Listed.{Listed}
 use Rattle.trace_lines.specs.Words.{Rest, rest, bad, Read, numberIn, restOf, readOf}
-use Rattle.trace_lines.specs.Sets.{Members, these, none, also, afterNumber, listedIn, setFrom, setOf, toldBy, numbersOf, filled, Listing, isThese, setIn}
+use Rattle.trace_lines.specs.Sets.{Members, these, none, also, afterNumber, listedIn, setFrom, setSaid, toldBy, numbersOf, numbersRoom, Listing, isThese, setIn}
 
 -- the numbers p, and then ms
 abbrev pub prefixed : List ℕ → Members → Members
@@ -72,7 +72,7 @@ listed-numbers ms n r room l = go (r .ok) refl
 
 -- the rest of the room is cleared: z is what a part of it becomes
 pub told-filled : (ms : Members) (k : ℕ) (r : Listed) (room z : List ℕ) → length room ≡ k → Listing ms k r room → z ≡ replicate (length (take (length room - r .count) (drop (r .count) room))) 0
-    → (toldBy r (take (r .count) room ++ (z ++ drop (length room - r .count) (drop (r .count) room))) ≡ ms) × (take (r .count) room ++ (z ++ drop (length room - r .count) (drop (r .count) room)) ≡ filled k (numbersOf ms))
+    → (toldBy r (take (r .count) room ++ (z ++ drop (length room - r .count) (drop (r .count) room))) ≡ ms) × (take (r .count) room ++ (z ++ drop (length room - r .count) (drop (r .count) room)) ≡ numbersRoom k (numbersOf ms))
 told-filled ms k r room z q l e =
     let n = listed-numbers ms k r room l in
     let h : r .count ≤ length room = omega (arith, l .within) in
@@ -88,7 +88,7 @@ told-ok r room = go (r .ok)
     go true = refl
     go false = refl
 
-pub set-given : (ms : Members) (n : ℕ) (r : Listed) (room : List ℕ) → toldBy r room ≡ ms → r .count ≡ length (numbersOf ms) → room ≡ filled n (numbersOf ms) → Gives1 r room (setIn n ms)
+pub set-given : (ms : Members) (n : ℕ) (r : Listed) (room : List ℕ) → toldBy r room ≡ ms → r .count ≡ length (numbersOf ms) → room ≡ numbersRoom n (numbersOf ms) → Gives1 r room (setIn n ms)
 set-given ms n r room t c f =
     record {
       result = ap (λ (k : ℕ). record { count = k; ok = r .ok }) c ∙ ap (λ (b : Bool). record { count = length (numbersOf ms); ok = b }) (told-ok r room ∙ ap isThese t);

@@ -7,8 +7,8 @@ use lib.ListN.{length}
 use Rattle.numbers.specs.Promise.{Left1}
 use Rattle.trace_lines.specs.declared.command.Command.{Command}
 use Rattle.trace_lines.specs.declared.command.Command.the-variants.{New, Match, Write, Ack, Sent, Frag, Evict, Unknown}
-use Rattle.trace_lines.specs.Words.{Rest, rest, bytes, afterKey, Read, field, Two, two, ended}
-use Rattle.trace_lines.specs.Sets.{Members, these, none, setOf, filled}
+use Rattle.trace_lines.specs.Words.{Rest, rest, bytes, afterKey, Read, field, Two, two, lineEnded}
+use Rattle.trace_lines.specs.Sets.{Members, these, none, setSaid, numbersRoom}
 
 pub data Said : Type 0 where
   op-new : ℕ → ℕ → ℕ → ℕ → Said
@@ -22,46 +22,46 @@ pub data Said : Type 0 where
 
 -- what is said, where the line ends here
 abbrev pub atEnd : Rest → Said → Said
-atEnd r c = cond (ended r) c unknown
+atEnd r c = cond (lineEnded r) c unknown
 
 abbrev pub withSet : Members → (List ℕ → Said) → Said
 withSet (these l) c = c l
 withSet none c = unknown
 
 -- op=new window= backlog= retain= slots=
-abbrev pub newOf : List ℕ → Said
-newOf s =
+abbrev pub newSaid : List ℕ → Said
+newSaid s =
     let t = two (bytes "op=new window=") (bytes " backlog=") (rest s) in
     let u = two (bytes " retain=") (bytes " slots=") (t .after) in
     atEnd (u .after) (op-new (t .first) (t .second) (u .first) (u .second))
 
 -- op=match reader=
-abbrev pub matchOf : List ℕ → Said
-matchOf s = let r = field (bytes "op=match reader=") (rest s) in atEnd (r .after) (op-match (r .value))
+abbrev pub matchSaid : List ℕ → Said
+matchSaid s = let r = field (bytes "op=match reader=") (rest s) in atEnd (r .after) (op-match (r .value))
 
 -- op=write len=
-abbrev pub writeOf : List ℕ → Said
-writeOf s = let r = field (bytes "op=write len=") (rest s) in atEnd (r .after) (op-write (r .value))
+abbrev pub writeSaid : List ℕ → Said
+writeSaid s = let r = field (bytes "op=write len=") (rest s) in atEnd (r .after) (op-write (r .value))
 
 -- op=ack reader= base= set=   "An `op=ack` number below its base gets 15"
-abbrev pub ackOf : ℕ → List ℕ → Said
-ackOf k s =
+abbrev pub ackSaid : ℕ → List ℕ → Said
+ackSaid k s =
     let t = two (bytes "op=ack reader=") (bytes " base=") (rest s) in
-    withSet (setOf k (t .second) (afterKey (bytes " set=") (t .after))) (op-ack (t .first) (t .second))
+    withSet (setSaid k (t .second) (afterKey (bytes " set=") (t .after))) (op-ack (t .first) (t .second))
 
 -- op=sent reader= seq=
-abbrev pub sentOf : List ℕ → Said
-sentOf s = let t = two (bytes "op=sent reader=") (bytes " seq=") (rest s) in atEnd (t .after) (op-sent (t .first) (t .second))
+abbrev pub sentSaid : List ℕ → Said
+sentSaid s = let t = two (bytes "op=sent reader=") (bytes " seq=") (rest s) in atEnd (t .after) (op-sent (t .first) (t .second))
 
 -- op=frag reader= seq= set=
-abbrev pub fragOf : ℕ → List ℕ → Said
-fragOf k s =
+abbrev pub fragSaid : ℕ → List ℕ → Said
+fragSaid k s =
     let t = two (bytes "op=frag reader=") (bytes " seq=") (rest s) in
-    withSet (setOf k 0 (afterKey (bytes " set=") (t .after))) (op-frag (t .first) (t .second))
+    withSet (setSaid k 0 (afterKey (bytes " set=") (t .after))) (op-frag (t .first) (t .second))
 
 -- op=evict before=
-abbrev pub evictOf : List ℕ → Said
-evictOf s = let r = field (bytes "op=evict before=") (rest s) in atEnd (r .after) (op-evict (r .value))
+abbrev pub evictSaid : List ℕ → Said
+evictSaid s = let r = field (bytes "op=evict before=") (rest s) in atEnd (r .after) (op-evict (r .value))
 
 -- the first of some that says something
 abbrev pub orElse : Said → Said → Said
@@ -75,12 +75,12 @@ orElse (op-frag a b l) d = op-frag a b l
 orElse (op-evict a) d = op-evict a
 
 -- a line without a set
-abbrev pub plainOf : List ℕ → Said
-plainOf s = orElse (newOf s) (orElse (matchOf s) (orElse (writeOf s) (orElse (sentOf s) (evictOf s))))
+abbrev pub plainSaid : List ℕ → Said
+plainSaid s = orElse (newSaid s) (orElse (matchSaid s) (orElse (writeSaid s) (orElse (sentSaid s) (evictSaid s))))
 
 -- "reads lines of at most 512 bytes": what a line says, with a set of at most k numbers
 abbrev pub said : ℕ → List ℕ → Said
-said k s = cond (leb (length s) 512) (orElse (plainOf s) (orElse (ackOf k s) (fragOf k s))) unknown
+said k s = cond (leb (length s) 512) (orElse (plainSaid s) (orElse (ackSaid k s) (fragSaid k s))) unknown
 
 -- ---- the code's answer: the command, with the numbers of its set in the room
 abbrev pub commandOf : Said → Command
@@ -104,8 +104,8 @@ numbersIn (op-evict k) = []
 numbersIn unknown = []
 
 -- a room of n words holds the numbers, and zero in the rest
-abbrev pub answered : ℕ → Said → Left1 Command (List ℕ)
-answered n c = record { result = commandOf c; first = filled n (numbersIn c) }
+abbrev pub commandLeft : ℕ → Said → Left1 Command (List ℕ)
+commandLeft n c = record { result = commandOf c; first = numbersRoom n (numbersIn c) }
 
 abbrev pub isKnown : Command → Bool
 isKnown (New w b r s) = true

@@ -32,9 +32,9 @@ abbrev pub setFrom : ℕ → ℕ → List ℕ → Members
 setFrom k m [] = these []
 setFrom k m (b ∷ s) = listedIn k m (b ∷ s)
 
-abbrev pub setOf : ℕ → ℕ → Rest → Members
-setOf k m (rest s) = setFrom k m s
-setOf k m bad = none
+abbrev pub setSaid : ℕ → ℕ → Rest → Members
+setSaid k m (rest s) = setFrom k m s
+setSaid k m bad = none
 
 -- ---- the code's answer
 abbrev pub toldBy : Listed → List ℕ → Members
@@ -45,8 +45,8 @@ numbersOf (these l) = l
 numbersOf none = []
 
 -- the numbers at the start of a room of n words, zero in the rest
-abbrev pub filled : ℕ → List ℕ → List ℕ
-filled n l = l ++ replicate (n - length l) 0
+abbrev pub numbersRoom : ℕ → List ℕ → List ℕ
+numbersRoom n l = l ++ replicate (n - length l) 0
 
 pub record Listing (ms : Members) (n : ℕ) (r : Listed) (room : List ℕ) : Type 0 where
   pub told : toldBy r room ≡ ms
@@ -59,4 +59,4 @@ isThese none = false
 
 -- what is said of a set, and the room of n words that it leaves
 abbrev pub setIn : ℕ → Members → Left1 Listed (List ℕ)
-setIn n ms = record { result = record { count = length (numbersOf ms); ok = isThese ms }; first = filled n (numbersOf ms) }
+setIn n ms = record { result = record { count = length (numbersOf ms); ok = isThese ms }; first = numbersRoom n (numbersOf ms) }

@@ -22,13 +22,13 @@ pub data Rest : Type 0 where
   bad : Rest
 
 -- past the key k
-abbrev pub past : List ℕ → List ℕ → Rest
-past [] s = rest s
-past (x ∷ k) [] = bad
-past (x ∷ k) (y ∷ s) = cond (eqb y x) (past k s) bad
+abbrev pub pastKey : List ℕ → List ℕ → Rest
+pastKey [] s = rest s
+pastKey (x ∷ k) [] = bad
+pastKey (x ∷ k) (y ∷ s) = cond (eqb y x) (pastKey k s) bad
 
 abbrev pub afterKey : List ℕ → Rest → Rest
-afterKey k (rest s) = past k s
+afterKey k (rest s) = pastKey k s
 afterKey k bad = bad
 
 -- a number, and what is left after it
@@ -47,15 +47,15 @@ abbrev pub upTo63 : ℕ → List ℕ → Read
 upTo63 v s = cond (ltb v 9223372036854775808) (record { value = v; after = rest s }) nothing
 
 -- at most k digits more
-abbrev pub digits : ℕ → ℕ → List ℕ → Read
-digits k v [] = upTo63 v []
-digits zero v (b ∷ s) = cond (isDigit b) nothing (upTo63 v (b ∷ s))
-digits (suc k) v (b ∷ s) = cond (isDigit b) (digits k (v * 10 + (b - 48)) s) (upTo63 v (b ∷ s))
+abbrev pub digitsRead : ℕ → ℕ → List ℕ → Read
+digitsRead k v [] = upTo63 v []
+digitsRead zero v (b ∷ s) = cond (isDigit b) nothing (upTo63 v (b ∷ s))
+digitsRead (suc k) v (b ∷ s) = cond (isDigit b) (digitsRead k (v * 10 + (b - 48)) s) (upTo63 v (b ∷ s))
 
 -- 1 to 19 digits
 abbrev pub numberIn : List ℕ → Read
 numberIn [] = nothing
-numberIn (b ∷ s) = cond (isDigit b) (digits 18 (b - 48) s) nothing
+numberIn (b ∷ s) = cond (isDigit b) (digitsRead 18 (b - 48) s) nothing
 
 abbrev pub numberOf : Rest → Read
 numberOf (rest s) = numberIn s
@@ -75,26 +75,26 @@ abbrev pub two : List ℕ → List ℕ → Rest → Two
 two k l r = record { first = field k r .value; second = field l (field k r .after) .value; after = field l (field k r .after) .after }
 
 -- whether the line ends here
-abbrev pub ended : Rest → Bool
-ended bad = false
-ended (rest []) = true
-ended (rest (b ∷ s)) = false
+abbrev pub lineEnded : Rest → Bool
+lineEnded bad = false
+lineEnded (rest []) = true
+lineEnded (rest (b ∷ s)) = false
 
 -- ---- the code's places
 abbrev pub restOf : List ℕ → Place → Rest
 restOf s c = cond (c .ok) (rest (drop (c .at) s)) bad
 
-abbrev pub noNumber : Number
-noNumber = record { value = 0; next = record { at = 0; ok = false } }
+abbrev pub notANumber : Number
+notANumber = record { value = 0; next = record { at = 0; ok = false } }
 
 abbrev pub numberTo : ℕ → ℕ → Number
-numberTo v at = cond (ltb v 9223372036854775808) (record { value = v; next = record { at = at; ok = true } }) noNumber
+numberTo v at = cond (ltb v 9223372036854775808) (record { value = v; next = record { at = at; ok = true } }) notANumber
 
 -- what the code's number says of the line s
 abbrev pub readOf : List ℕ → Number → Read
 readOf s r = record { value = r .value; after = restOf s (r .next) }
 
-pub record Numbered (s : List ℕ) (from : Rest) (r : Number) : Type 0 where
+pub record NumberRead (s : List ℕ) (from : Rest) (r : Number) : Type 0 where
   pub is : readOf s r ≡ numberOf from
   pub small : r .value < 9223372036854775808
 

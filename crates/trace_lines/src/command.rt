@@ -2,7 +2,8 @@
 ghost use mathlib.Core.Path.{_≡_};
 ghost use lib.ListN.{length};
 ghost use Rattle.numbers.specs.Promise.{Gives1};
-ghost use Rattle.trace_lines.specs.Lines.{commandOf, isKnown, newOf, matchOf, writeOf, ackOf, sentOf, fragOf, evictOf, plainOf, said, answered};
+ghost use Rattle.trace_lines.specs.Lines.{commandOf, isKnown, newSaid, matchSaid, writeSaid, ackSaid};
+ghost use Rattle.trace_lines.specs.Lines.{sentSaid, fragSaid, evictSaid, plainSaid, said, commandLeft};
 use crate::Place;
 use crate::set::clear;
 
@@ -68,7 +69,7 @@ fn is_known(c: Command) -> bool
 }
 
 fn new_line(s: &[u8]) -> Command
-    ensures { λ r. ⌜ r ≡ commandOf (newOf (now (s .entry))) ⌝ }
+    ensures { λ r. ⌜ r ≡ commandOf (newSaid (now (s .entry))) ⌝ }
 {
     let t = Place::start().pair(s, b"op=new window=", b" backlog=");
     let u = t.next.pair(s, b" retain=", b" slots=");
@@ -84,7 +85,7 @@ fn new_line(s: &[u8]) -> Command
 }
 
 fn match_line(s: &[u8]) -> Command
-    ensures { λ r. ⌜ r ≡ commandOf (matchOf (now (s .entry))) ⌝ }
+    ensures { λ r. ⌜ r ≡ commandOf (matchSaid (now (s .entry))) ⌝ }
 {
     let f = Place::start().field(s, b"op=match reader=");
     if f.next.ends(s) {
@@ -94,7 +95,7 @@ fn match_line(s: &[u8]) -> Command
 }
 
 fn write_line(s: &[u8]) -> Command
-    ensures { λ r. ⌜ r ≡ commandOf (writeOf (now (s .entry))) ⌝ }
+    ensures { λ r. ⌜ r ≡ commandOf (writeSaid (now (s .entry))) ⌝ }
 {
     let f = Place::start().field(s, b"op=write len=");
     if f.next.ends(s) {
@@ -104,7 +105,7 @@ fn write_line(s: &[u8]) -> Command
 }
 
 fn sent_line(s: &[u8]) -> Command
-    ensures { λ r. ⌜ r ≡ commandOf (sentOf (now (s .entry))) ⌝ }
+    ensures { λ r. ⌜ r ≡ commandOf (sentSaid (now (s .entry))) ⌝ }
 {
     let t = Place::start().pair(s, b"op=sent reader=", b" seq=");
     if t.next.ends(s) {
@@ -117,7 +118,7 @@ fn sent_line(s: &[u8]) -> Command
 }
 
 fn evict_line(s: &[u8]) -> Command
-    ensures { λ r. ⌜ r ≡ commandOf (evictOf (now (s .entry))) ⌝ }
+    ensures { λ r. ⌜ r ≡ commandOf (evictSaid (now (s .entry))) ⌝ }
 {
     let f = Place::start().field(s, b"op=evict before=");
     if f.next.ends(s) {
@@ -127,7 +128,7 @@ fn evict_line(s: &[u8]) -> Command
 }
 
 fn ack_line(s: &[u8], room: &mut [u64]) -> Command
-    ensures { λ r. ⌜ Gives1 r (now (room .exit)) (answered (length (now (room .entry))) (ackOf (length (now (room .entry))) (now (s .entry)))) ⌝ }
+    ensures { λ r. ⌜ Gives1 r (now (room .exit)) (commandLeft (length (now (room .entry))) (ackSaid (length (now (room .entry))) (now (s .entry)))) ⌝ }
 {
     let t = Place::start().pair(s, b"op=ack reader=", b" base=");
     let least = t.second;
@@ -143,7 +144,7 @@ fn ack_line(s: &[u8], room: &mut [u64]) -> Command
 }
 
 fn frag_line(s: &[u8], room: &mut [u64]) -> Command
-    ensures { λ r. ⌜ Gives1 r (now (room .exit)) (answered (length (now (room .entry))) (fragOf (length (now (room .entry))) (now (s .entry)))) ⌝ }
+    ensures { λ r. ⌜ Gives1 r (now (room .exit)) (commandLeft (length (now (room .entry))) (fragSaid (length (now (room .entry))) (now (s .entry)))) ⌝ }
 {
     let t = Place::start().pair(s, b"op=frag reader=", b" seq=");
     let l = t.next.key(s, b" set=").set(s, 0, room);
@@ -159,7 +160,7 @@ fn frag_line(s: &[u8], room: &mut [u64]) -> Command
 
 // A line without a set.
 fn plain_line(s: &[u8]) -> Command
-    ensures { λ r. ⌜ r ≡ commandOf (plainOf (now (s .entry))) ⌝ }
+    ensures { λ r. ⌜ r ≡ commandOf (plainSaid (now (s .entry))) ⌝ }
 {
     let c = new_line(s);
     if is_known(c) {
@@ -182,7 +183,7 @@ fn plain_line(s: &[u8]) -> Command
 
 // What the line says; the numbers of its set at the start of the room, and zero in the rest of it.
 pub fn read_line(s: &[u8], room: &mut [u64]) -> Command
-    ensures { λ r. ⌜ Gives1 r (now (room .exit)) (answered (length (now (room .entry))) (said (length (now (room .entry))) (now (s .entry)))) ⌝ }
+    ensures { λ r. ⌜ Gives1 r (now (room .exit)) (commandLeft (length (now (room .entry))) (said (length (now (room .entry))) (now (s .entry)))) ⌝ }
 {
     if 512 < s.len() {
         clear(room);

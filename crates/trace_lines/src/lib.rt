@@ -3,7 +3,7 @@
 ghost use mathlib.Core.Path.{_≡_};
 ghost use mathlib.Core.Bool.{true};
 ghost use Prim.Native.Nat.{_-_};
-ghost use Rattle.trace_lines.specs.Words.{isDigit, restOf, afterKey, noNumber, numberTo, Numbered, ended, pairOf, two};
+ghost use Rattle.trace_lines.specs.Words.{isDigit, restOf, afterKey, notANumber, numberTo, NumberRead, lineEnded, pairOf, two};
 
 pub mod command;
 mod set;
@@ -44,7 +44,7 @@ fn left_of(len: usize, at: usize) -> usize
 }
 
 fn no_number() -> Number
-    ensures { λ r. ⌜ r ≡ noNumber ⌝ }
+    ensures { λ r. ⌜ r ≡ notANumber ⌝ }
 {
     Number {
         value: 0,
@@ -99,7 +99,7 @@ impl Place {
 
     // A number of 1 to 19 digits, up to 2^63 - 1, and the place past it.
     fn number(self, s: &[u8]) -> Number
-        ensures { λ r. ⌜ Numbered (now (s .entry)) (restOf (now (s .entry)) self) r ⌝ }
+        ensures { λ r. ⌜ NumberRead (now (s .entry)) (restOf (now (s .entry)) self) r ⌝ }
     {
         let at = self.at;
         if !self.ok {
@@ -132,7 +132,7 @@ impl Place {
 
     // A key, and the number behind it.
     fn field(self, s: &[u8], k: &[u8]) -> Number
-        ensures { λ r. ⌜ Numbered (now (s .entry)) (afterKey (now (k .entry)) (restOf (now (s .entry)) self)) r ⌝ }
+        ensures { λ r. ⌜ NumberRead (now (s .entry)) (afterKey (now (k .entry)) (restOf (now (s .entry)) self)) r ⌝ }
     {
         self.key(s, k).number(s)
     }
@@ -153,7 +153,7 @@ impl Place {
 
     // Whether the line ends here.
     fn ends(self, s: &[u8]) -> bool
-        ensures { λ r. ⌜ r ≡ ended (restOf (now (s .entry)) self) ⌝ }
+        ensures { λ r. ⌜ r ≡ lineEnded (restOf (now (s .entry)) self) ⌝ }
     {
         let at = self.at;
         self.ok & (s.len() <= at)

@@ -3,7 +3,7 @@ ghost use mathlib.Core.Path.{_≡_};
 ghost use lib.ListN.{length, drop, replicate};
 ghost use Rattle.numbers.specs.Promise.{Gives1};
 ghost use Rattle.trace_lines.specs.Words.{restOf};
-ghost use Rattle.trace_lines.specs.Sets.{Listing, setIn, setOf, listedIn};
+ghost use Rattle.trace_lines.specs.Sets.{Listing, setIn, setSaid, listedIn};
 use crate::Place;
 
 // What a set came to: how many numbers stand at the start of the room.
@@ -61,7 +61,7 @@ fn numbers_in(s: &[u8], at: usize, least: u64, room: &mut [u64]) -> Listed
 
 impl Place {
     fn set_into(self, s: &[u8], least: u64, room: &mut [u64]) -> Listed
-        ensures { λ r. ⌜ Listing (setOf (length (now (room .entry))) least (restOf (now (s .entry)) self)) (length (now (room .entry))) r (now (room .exit)) ⌝ }
+        ensures { λ r. ⌜ Listing (setSaid (length (now (room .entry))) least (restOf (now (s .entry)) self)) (length (now (room .entry))) r (now (room .exit)) ⌝ }
     {
         let at = self.at;
         if !self.ok {
@@ -78,7 +78,7 @@ impl Place {
 
     // Rising numbers, each at least `least`, up to the line's end; the rest of the room becomes 0.
     pub fn set(self, s: &[u8], least: u64, room: &mut [u64]) -> Listed
-        ensures { λ r. ⌜ Gives1 r (now (room .exit)) (setIn (length (now (room .entry))) (setOf (length (now (room .entry))) least (restOf (now (s .entry)) self))) ⌝ }
+        ensures { λ r. ⌜ Gives1 r (now (room .exit)) (setIn (length (now (room .entry))) (setSaid (length (now (room .entry))) least (restOf (now (s .entry)) self))) ⌝ }
     {
         let r = self.set_into(s, least, room);
         let n = r.count;

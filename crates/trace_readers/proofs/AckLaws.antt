@@ -24,7 +24,7 @@ use Rattle.trace_readers.specs.declared.state.Followed.{Followed}
 use Rattle.trace_readers.specs.State.{refusedBy, incoherent, readerIn}
 use Rattle.trace_readers.specs.Rooms.{part, put, unsentAt, gapsAt}
 use Rattle.trace_readers.proofs.Parts.{part-as, put-as}
-use Rattle.trace_readers.specs.Requests.{isFirst, tooMany, unlessTooMany, askedFor, ackPart, ackPut, ackedBy, ackOf, ackLine}
+use Rattle.trace_readers.specs.Requests.{isFirst, tooMany, unlessTooMany, askedFor, ackPart, ackInRooms, ackFollowedBy, ackFollowed, ackLine}
 
 -- the set of a line
 module _ (base : ℕ) (l : List ℕ) (n : SequenceNumber) (e : n ≡ numberAt base) (w : WrittenNumbers) (f : w ≡ ofNumbers n l) where
@@ -41,7 +41,7 @@ module _ (base : ℕ) (l : List ℕ) (n : SequenceNumber) (e : n ≡ numberAt ba
 pub ack-part : (first : Bool) (id : ℕ) (set : SequenceNumberSet) (t : Trace) (large small : List ℕ) (a d : ℕ) (p : ReaderProxy) (r : AckTaken2) (u g : List ℕ)
     → a ≡ unsentAt first → d ≡ gapsAt first → p ≡ readerIn first t
     → Gives2 r u g (taken2 (ackStep (t .heads) (t .flow) id set p (take (a + 1024 - a) (drop a large)) (take (d + 256 - d) (drop d small))))
-    → Gives2 r (take a large ++ (u ++ drop (a + 1024 - a) (drop a large))) (take d small ++ (g ++ drop (d + 256 - d) (drop d small))) (ackPut first id set t large small)
+    → Gives2 r (take a large ++ (u ++ drop (a + 1024 - a) (drop a large))) (take d small ++ (g ++ drop (d + 256 - d) (drop d small))) (ackInRooms first id set t large small)
 ack-part first id set t large small a d p r u g ea ed ep k =
     let x : Gives2 r u g (taken2 (ackStep (t .heads) (t .flow) id set p (part (unsentAt first) 1024 large) (take (d + 256 - d) (drop d small))))
     = subst (λ (z : List ℕ). Gives2 r u g (taken2 (ackStep (t .heads) (t .flow) id set p z (take (d + 256 - d) (drop d small))))) (part-as a (unsentAt first) 1024 large ea) k in
@@ -62,11 +62,11 @@ module _ (id base : ℕ) (l : List ℕ) (t : Trace) (large small : List ℕ) whe
   pub ack-line : length large ≡ 4352 → length small ≡ 544
       → (set : SequenceNumberSet) → set ≡ askedFor base l
       → (found : Found) → found ≡ foundOf (t .heads) id → (first : Bool) → first ≡ isFirst found
-      → (k : AckTaken2) (u v : List ℕ) → Gives2 k u v (ackPut first id set t large small)
-      → (r : Followed) → r ≡ ackedBy first k t → Gives2 r u v (ackLine id base l t large small)
+      → (k : AckTaken2) (u v : List ℕ) → Gives2 k u v (ackInRooms first id set t large small)
+      → (r : Followed) → r ≡ ackFollowedBy first k t → Gives2 r u v (ackLine id base l t large small)
   ack-line hl hs set es found ef first eb k u v g r er =
-      let o : Gives2 r u v (ackOf first id set t large small) = record { result = er ∙ ap (λ (x : AckTaken2). ackedBy first x t) (g .result); first = g .first; second = g .second } in
-      let p : Gives2 r u v (ackOf first id (askedFor base l) t large small) = subst (λ (s : SequenceNumberSet). Gives2 r u v (ackOf first id s t large small)) es o in
-      let q : Gives2 r u v (ackOf (isFirst (foundOf (t .heads) id)) id (askedFor base l) t large small)
-      = subst (λ (b : Bool). Gives2 r u v (ackOf b id (askedFor base l) t large small)) (eb ∙ ap isFirst ef) p in
+      let o : Gives2 r u v (ackFollowed first id set t large small) = record { result = er ∙ ap (λ (x : AckTaken2). ackFollowedBy first x t) (g .result); first = g .first; second = g .second } in
+      let p : Gives2 r u v (ackFollowed first id (askedFor base l) t large small) = subst (λ (s : SequenceNumberSet). Gives2 r u v (ackFollowed first id s t large small)) es o in
+      let q : Gives2 r u v (ackFollowed (isFirst (foundOf (t .heads) id)) id (askedFor base l) t large small)
+      = subst (λ (b : Bool). Gives2 r u v (ackFollowed b id (askedFor base l) t large small)) (eb ∙ ap isFirst ef) p in
       rw (eq-eqb (length large) 4352 hl, eq-eqb (length small) 544 hs) q

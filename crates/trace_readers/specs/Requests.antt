@@ -5,7 +5,7 @@ use mathlib.Core.List.{List, [], _∷_}
 use lib.Dec.{ltb, eqb}
 use lib.ListN.{length, getD, replicate}
 use Rattle.numbers.specs.Number.{numberAt, fragmentAt}
-use Rattle.numbers.specs.Refusals.{row, rowsOf, answerOf, isDone, done}
+use Rattle.numbers.specs.Refusals.{row, answerOf, isDone, done}
 use Rattle.numbers.specs.Promise.{Left1, Left2, Left3}
 use Rattle.numbers.specs.declared.answer.Answer.{Answer}
 use Rattle.numbers.specs.declared.sequence_number.SequenceNumber.{SequenceNumber}
@@ -15,9 +15,9 @@ use Rattle.number_sets.specs.declared.fragment_number_set.FragmentNumberSet.{Fr
 use Rattle.number_sets.specs.Calls.{ofNumbers, ofFragments}
 use Rattle.rtps_reader_proxy.specs.declared.proxy.ReaderProxy.{ReaderProxy}
 use Rattle.rtps_reader_proxy.specs.declared.proxy.Changed.{Changed}
-use Rattle.rtps_reader_proxy.specs.Record.{unsentOk}
+use Rattle.rtps_reader_proxy.specs.Record.{unsentCoherent}
 use Rattle.rtps_reader_proxy.specs.Unsent.{markedSentOf}
-use Rattle.rtps_reader_proxy.specs.Fragments.{fragsOk, cannotAsk, fragsRequestedOf}
+use Rattle.rtps_reader_proxy.specs.Fragments.{fragsCoherent, cannotAsk, fragsRequestedOf}
 use Rattle.reader_list.specs.declared.heads.ReaderHead.{ReaderHead}
 use Rattle.reader_list.specs.declared.calls.Found.{Found}
 use Rattle.reader_list.specs.Slots.{foundOf}
@@ -30,7 +30,7 @@ use Rattle.writer_steps.specs.Acks.{ackStep}
 use Rattle.writer_steps.specs.Two.{taken2}
 use Rattle.trace_readers.specs.declared.state.Trace.{Trace}
 use Rattle.trace_readers.specs.declared.state.Followed.{Followed}
-use Rattle.trace_readers.specs.State.{refusedBy, incoherent, ownAnswer, withFlow, readerIn, withReader}
+use Rattle.trace_readers.specs.State.{refusedBy, incoherent, ownAnswer, traceWithFlow, readerIn, withReader}
 use Rattle.trace_readers.specs.Rooms.{part, put, largeFits, smallFits, unsentAt, gapsAt, wordsAt, samplesAt}
 
 -- whether the reader stands in the first slot. One that isn't there counts so: what comes before 11 is found by the first reader's record
@@ -55,36 +55,36 @@ abbrev pub ackPart : Bool → ℕ → SequenceNumberSet → Trace → List ℕ �
 ackPart first id set t large small = taken2 (ackStep (t .heads) (t .flow) id set (readerIn first t) (part (unsentAt first) 1024 large) (part (gapsAt first) 256 small))
 
 -- with the rooms, whole
-abbrev pub ackPut : Bool → ℕ → SequenceNumberSet → Trace → List ℕ → List ℕ → Left2 AckTaken2 (List ℕ) (List ℕ)
-ackPut first id set t large small =
+abbrev pub ackInRooms : Bool → ℕ → SequenceNumberSet → Trace → List ℕ → List ℕ → Left2 AckTaken2 (List ℕ) (List ℕ)
+ackInRooms first id set t large small =
     record {
       result = ackPart first id set t large small .result;
       first = put (unsentAt first) 1024 (ackPart first id set t large small .first) large;
       second = put (gapsAt first) 256 (ackPart first id set t large small .second) small;
     }
 
-abbrev pub ackedBy : Bool → AckTaken2 → Trace → Followed
-ackedBy first k t = record { answer = k .answered .told .answer; trace = withReader first (k .answered .proxy) (withFlow (k .flow) (k .heads) t) }
+abbrev pub ackFollowedBy : Bool → AckTaken2 → Trace → Followed
+ackFollowedBy first k t = record { answer = k .answered .told .answer; trace = withReader first (k .answered .proxy) (traceWithFlow (k .flow) (k .heads) t) }
 
-abbrev pub ackOf : Bool → ℕ → SequenceNumberSet → Trace → List ℕ → List ℕ → Left2 Followed (List ℕ) (List ℕ)
-ackOf first id set t large small =
+abbrev pub ackFollowed : Bool → ℕ → SequenceNumberSet → Trace → List ℕ → List ℕ → Left2 Followed (List ℕ) (List ℕ)
+ackFollowed first id set t large small =
     record {
-      result = ackedBy first (ackPut first id set t large small .result) t;
-      first = ackPut first id set t large small .first;
-      second = ackPut first id set t large small .second;
+      result = ackFollowedBy first (ackInRooms first id set t large small .result) t;
+      first = ackInRooms first id set t large small .first;
+      second = ackInRooms first id set t large small .second;
     }
 
 -- what the line leaves, unless a room has another length
 abbrev pub ackLine : ℕ → ℕ → List ℕ → Trace → List ℕ → List ℕ → Left2 Followed (List ℕ) (List ℕ)
 ackLine id base l t large small =
     cond (largeFits large && smallFits small)
-    (ackOf (isFirst (foundOf (t .heads) id)) id (askedFor base l) t large small)
+    (ackFollowed (isFirst (foundOf (t .heads) id)) id (askedFor base l) t large small)
     (record { result = refusedBy incoherent t; first = large; second = small })
 
 -- OP=SENT: "marks the number sent for that reader"; "`sent` also raises the sent frontier"
 
 abbrev pub sentAnswers : Bool → Answer → SequenceNumber → Trace → List ℕ → List Answer
-sentAnswers first looked n t unsent = ownAnswer (unsentOk (readerIn first t) unsent) ∷ sentOf (t .flow) n .result .answer ∷ looked ∷ []
+sentAnswers first looked n t unsent = ownAnswer (unsentCoherent (readerIn first t) unsent) ∷ sentOf (t .flow) n .result .answer ∷ looked ∷ []
 
 abbrev pub notSent : Trace → List ℕ → Answer → Left1 Followed (List ℕ)
 notSent t unsent a = record { result = refusedBy a t; first = unsent }
@@ -92,19 +92,19 @@ notSent t unsent a = record { result = refusedBy a t; first = unsent }
 abbrev pub isSent : Bool → SequenceNumber → Trace → List ℕ → Left1 Followed (List ℕ)
 isSent first n t unsent =
     record {
-      result = record { answer = done; trace = withReader first (markedSentOf n (readerIn first t) unsent .result .proxy) (withFlow (sentOf (t .flow) n .first) (t .heads) t) };
+      result = record { answer = done; trace = withReader first (markedSentOf n (readerIn first t) unsent .result .proxy) (traceWithFlow (sentOf (t .flow) n .first) (t .heads) t) };
       first = markedSentOf n (readerIn first t) unsent .first;
     }
 
-abbrev pub sentTo : Bool → Answer → SequenceNumber → Trace → List ℕ → Left1 Followed (List ℕ)
-sentTo first looked n t unsent = stepped (sentAnswers first looked n t unsent) (notSent t unsent) (isSent first n t unsent)
+abbrev pub sentFollowed : Bool → Answer → SequenceNumber → Trace → List ℕ → Left1 Followed (List ℕ)
+sentFollowed first looked n t unsent = stepped (sentAnswers first looked n t unsent) (notSent t unsent) (isSent first n t unsent)
 
 -- with the room, whole
 abbrev pub sentPut : Bool → Answer → SequenceNumber → Trace → List ℕ → Left1 Followed (List ℕ)
 sentPut first looked n t large =
     record {
-      result = sentTo first looked n t (part (unsentAt first) 1024 large) .result;
-      first = put (unsentAt first) 1024 (sentTo first looked n t (part (unsentAt first) 1024 large) .first) large;
+      result = sentFollowed first looked n t (part (unsentAt first) 1024 large) .result;
+      first = put (unsentAt first) 1024 (sentFollowed first looked n t (part (unsentAt first) 1024 large) .first) large;
     }
 
 abbrev pub sentFor : Found → SequenceNumber → Trace → List ℕ → Left1 Followed (List ℕ)

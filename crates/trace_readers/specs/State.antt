@@ -1,11 +1,12 @@
 -- What a trace keeps from line to line. Assumes nothing.
+use mathlib.Core.Path.{refl}
 use Prim.Native.Nat.{ℕ}
 use mathlib.Core.Bool.{Bool, true, false, not, cond}
 use mathlib.Core.List.{List, [], _∷_}
-use Rattle.numbers.specs.Refusals.{row, rowsOf, answerOf}
+use Rattle.numbers.specs.Refusals.{answerAt, row, answerOf}
 use Rattle.numbers.specs.declared.answer.Answer.{Answer}
 use Rattle.rtps_reader_proxy.specs.declared.proxy.ReaderProxy.{ReaderProxy}
-use Rattle.rtps_reader_proxy.specs.Unsent.{newOf}
+use Rattle.rtps_reader_proxy.specs.Unsent.{newProxyOf}
 use Rattle.reader_list.specs.declared.heads.ReaderHead.{ReaderHead}
 use Rattle.reader_list.specs.Slots.{freeSlot}
 use Rattle.writer_send_buffer.specs.declared.flow.WriterSendBuffer.{WriterSendBuffer}
@@ -14,8 +15,8 @@ use Rattle.trace_readers.specs.declared.state.Trace.{Trace}
 use Rattle.trace_readers.specs.declared.state.Followed.{Followed}
 
 -- before the first line: no writer, and "room for two reliable readers", whose cap is the default one
-abbrev pub begun : Trace
-begun = record { started = false; flow = zeroed; heads = freeSlot ∷ freeSlot ∷ []; one = newOf 1024 .proxy; two = newOf 1024 .proxy }
+abbrev pub traceBegun : Trace
+traceBegun = record { started = false; flow = zeroed; heads = freeSlot ∷ freeSlot ∷ []; one = newProxyOf 1024 .proxy; two = newProxyOf 1024 .proxy }
 
 -- "Every number but 0 .. changes nothing"
 abbrev pub refusedBy : Answer → Trace → Followed
@@ -23,14 +24,14 @@ refusedBy a t = record { answer = a; trace = t }
 
 -- 1 for a room of another length; "trace line not understood" is 15
 abbrev pub incoherent : Answer
-incoherent = record { number = 1 }
+incoherent = answerAt 1
 
 abbrev pub notUnderstood : Answer
-notUnderstood = record { number = 15 }
+notUnderstood = answerAt 15
 
 -- from the line on that makes the writer
-abbrev pub withFlow : WriterSendBuffer → List ReaderHead → Trace → Trace
-withFlow f hs t = record { started = true; flow = f; heads = hs; one = t .one; two = t .two }
+abbrev pub traceWithFlow : WriterSendBuffer → List ReaderHead → Trace → Trace
+traceWithFlow f hs t = record { started = true; flow = f; heads = hs; one = t .one; two = t .two }
 
 -- the reader in the first slot, or the second
 abbrev pub readerIn : Bool → Trace → ReaderProxy
@@ -41,4 +42,4 @@ withReader first p t = record { started = t .started; flow = t .flow; heads = t 
 
 -- 1, where a record and its rooms aren't coherent
 abbrev pub ownAnswer : Bool → Answer
-ownAnswer good = answerOf (rowsOf (row 1 (not good) ∷ []))
+ownAnswer good = answerOf (row 1 refl (not good) ∷ [])

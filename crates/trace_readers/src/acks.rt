@@ -2,7 +2,7 @@
 ghost use mathlib.Core.Path.{_≡_};
 ghost use lib.ListN.{length};
 ghost use Rattle.numbers.specs.Promise.{Gives2};
-ghost use Rattle.trace_readers.specs.Requests.{askedFor, ackPut, ackedBy, ackLine};
+ghost use Rattle.trace_readers.specs.Requests.{askedFor, ackInRooms, ackFollowedBy, ackLine};
 use crate::gaps_at;
 use crate::is_first;
 use crate::state::Followed;
@@ -11,6 +11,7 @@ use crate::unsent_at;
 use number_sets::SequenceNumberSet;
 use numbers::SequenceNumber;
 use reader_list::arrays::lookup_in_2;
+use rtps_reader_proxy::ReaderProxy;
 use writer_steps::AckTaken2;
 use writer_steps::two::take_ack_nack_in_2;
 
@@ -42,12 +43,12 @@ impl Trace {
         small: &mut [u64],
     ) -> AckTaken2
         requires { ⌜ (length (now large) ≡ 4352) × (length (now small) ≡ 544) ⌝ }
-        ensures { λ r. ⌜ Gives2 r (now (large .exit)) (now (small .exit)) (ackPut first id set self (now (large .entry)) (now (small .entry))) ⌝ }
+        ensures { λ r. ⌜ Gives2 r (now (large .exit)) (now (small .exit)) (ackInRooms first id set self (now (large .entry)) (now (small .entry))) ⌝ }
     {
         let a = unsent_at(first);
-        let b = a + 1024;
+        let b = a + ReaderProxy::MOST_UNSENT;
         let d = gaps_at(first);
-        let e = d + 256;
+        let e = d + ReaderProxy::GAPS;
         let heads = self.heads;
         let flow = self.flow;
         let proxy = self.reader(first);
@@ -64,7 +65,7 @@ impl Trace {
 
     // What it leaves.
     fn acked(self, first: bool, taken: AckTaken2) -> Followed
-        ensures { λ r. ⌜ r ≡ ackedBy first taken self ⌝ }
+        ensures { λ r. ⌜ r ≡ ackFollowedBy first taken self ⌝ }
     {
         let step = taken.answered;
         let told = step.told;
@@ -86,10 +87,10 @@ impl Trace {
     ) -> Followed
         ensures { λ r. ⌜ Gives2 r (now (large .exit)) (now (small .exit)) (ackLine id base (now (numbers .entry)) self (now (large .entry)) (now (small .entry))) ⌝ }
     {
-        if large.len() != 4352 {
+        if large.len() != Trace::LARGE {
             return self.incoherent();
         }
-        if small.len() != 544 {
+        if small.len() != Trace::SMALL {
             return self.incoherent();
         }
         let set = asked(base, numbers);

@@ -1,8 +1,7 @@
 // What a trace keeps from line to line: the writer, once a line has made it, and its two readers. Their rooms are lent beside it.
 ghost use mathlib.Core.Path.{_≡_};
-ghost use Rattle.trace_readers.specs.State.{begun, refusedBy, incoherent, notUnderstood, withFlow, readerIn, withReader, ownAnswer};
+ghost use Rattle.trace_readers.specs.State.{traceBegun, refusedBy, incoherent, notUnderstood, traceWithFlow, readerIn, withReader, ownAnswer};
 use numbers::Answer;
-use numbers::Rows;
 use numbers::SequenceNumber;
 use reader_list::ReaderHead;
 use rtps_reader_proxy::ReaderProxy;
@@ -25,9 +24,19 @@ pub struct Followed {
 }
 
 impl Trace {
+    // The lengths of the lent rooms: the large one, the small one and the store. Where each reader's part starts in them is said in lib.rt.
+    pub const LARGE: usize = 4352;
+
+    pub const SMALL: usize = 544;
+
+    pub const STORE: usize = 4096;
+
+    // "16-byte slots"
+    pub const SLOT_BYTES: usize = 16;
+
     // Before the first line: no writer, and two readers that nothing is kept of.
     pub fn start() -> Trace
-        ensures { λ r. ⌜ r ≡ begun ⌝ }
+        ensures { λ r. ⌜ r ≡ traceBegun ⌝ }
     {
         let kind = Kind {
             reliable: false,
@@ -72,23 +81,19 @@ impl Trace {
     pub fn incoherent(self) -> Followed
         ensures { λ r. ⌜ r ≡ refusedBy incoherent self ⌝ }
     {
-        self.refused(Answer {
-            number: Answer::INCOHERENT,
-        })
+        self.refused(Answer::coherence(false))
     }
 
     // "Trace line not understood".
     pub fn not_understood(self) -> Followed
         ensures { λ r. ⌜ r ≡ refusedBy notUnderstood self ⌝ }
     {
-        self.refused(Answer {
-            number: Answer::LINE,
-        })
+        self.refused(Answer::not_understood())
     }
 
     // The same readers, with the flow record and the list as they then are.
     pub fn with_flow(self, flow: WriterSendBuffer, heads: [ReaderHead; 2]) -> Trace
-        ensures { λ r. ⌜ r ≡ withFlow flow heads self ⌝ }
+        ensures { λ r. ⌜ r ≡ traceWithFlow flow heads self ⌝ }
     {
         let one = self.one;
         let two = self.two;
@@ -101,7 +106,7 @@ impl Trace {
         }
     }
 
-    // The first reader's head, or the second's.
+    // The first reader's proxy, or the second's.
     pub fn reader(self, first: bool) -> ReaderProxy
         ensures { λ r. ⌜ r ≡ readerIn first self ⌝ }
     {
@@ -141,7 +146,5 @@ impl Trace {
 pub fn coherence(good: bool) -> Answer
     ensures { λ r. ⌜ r ≡ ownAnswer good ⌝ }
 {
-    let mut rows = Rows::none();
-    rows.incoherent = !good;
-    Answer::of(rows)
+    Answer::coherence(good)
 }

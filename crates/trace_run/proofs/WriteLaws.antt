@@ -19,9 +19,9 @@ use Rattle.writer_send_buffer.specs.declared.samples.Admitted.{Admitted}
 use Rattle.writer_send_buffer.specs.Samples.{admitOf, handed}
 use Rattle.trace_readers.specs.declared.state.Trace.{Trace}
 use Rattle.trace_readers.specs.declared.state.Followed.{Followed}
-use Rattle.trace_readers.specs.State.{refusedBy, incoherent, ownAnswer, withFlow}
+use Rattle.trace_readers.specs.State.{refusedBy, incoherent, ownAnswer, traceWithFlow}
 use Rattle.trace_readers.specs.Rooms.{part, put}
-use Rattle.trace_run.specs.Writes.{toldTo, toldOne, toldTwo, afterOne, toldBoth, bothOk, slotsIn, admitIn, admitPut, toldAfter, writtenBy, writtenOf, payloadOf, writeLine}
+use Rattle.trace_run.specs.Writes.{toldTo, toldOne, toldTwo, afterOne, toldBoth, bothCoherent, slotsIn, admitIn, admitPut, toldAfter, writtenBy, writtenOf, payloadOf, writeLine}
 
 -- one reader
 module _ (h : ReaderHead) (n : SequenceNumber) (p : ReaderProxy) (unsent : List ℕ) where
@@ -64,14 +64,14 @@ admit-part f payload store large s e r u v g =
     record { result = b .result; first = put-0 (16 * s) (16 * slotsIn f) u _ store w (b .first); second = put-0 s (slotsIn f) v _ large e (b .second) }
 
 -- the line, with its payload
-module _ (payload : List ℕ) (t : Trace) (store large : List ℕ) (a : Answer) (ea : a ≡ ownAnswer (bothOk t large)) where
+module _ (payload : List ℕ) (t : Trace) (store large : List ℕ) (a : Answer) (ea : a ≡ ownAnswer (bothCoherent t large)) where
   pub write-refused : (a .number ≡ 0 → ⊥) → (r : Followed) → r ≡ refusedBy a t → Gives2 r store large (writtenOf payload t store large)
   write-refused z r e =
-      rw (ne-eqb (ownAnswer (bothOk t large) .number) 0 (λ h. z (ap (λ (x : Answer). x .number) ea ∙ h)))
+      rw (ne-eqb (ownAnswer (bothCoherent t large) .number) 0 (λ h. z (ap (λ (x : Answer). x .number) ea ∙ h)))
       (record { result = e ∙ ap (λ (x : Answer). refusedBy x t) ea; first = refl; second = refl })
 
   into : a .number ≡ 0 → {r : Followed} {u v : List ℕ} → Gives2 r u v (writtenBy (admitPut (t .flow) payload store large) t) → Gives2 r u v (writtenOf payload t store large)
-  into z g = rw (eq-eqb (ownAnswer (bothOk t large) .number) 0 (sym (ap (λ (x : Answer). x .number) ea) ∙ z)) g
+  into z g = rw (eq-eqb (ownAnswer (bothCoherent t large) .number) 0 (sym (ap (λ (x : Answer). x .number) ea) ∙ z)) g
 
   module _ (z : a .number ≡ 0) (d : Admitted) (u v : List ℕ) (g : Gives2 d u v (admitPut (t .flow) payload store large)) where
     abbrev had : Left2 Admitted (List ℕ) (List ℕ)
@@ -91,7 +91,7 @@ module _ (payload : List ℕ) (t : Trace) (store large : List ℕ) (a : Answer) 
         let k : Gives2 r u v (writtenBy had t) = rw (ne-eqb (d .numbered .answer .number) 0 n) (record { result = e; first = refl; second = refl }) in
         into z (turn k)
 
-    pub write-done : d .numbered .answer .number ≡ 0 → (s : Trace) → s ≡ withFlow (d .flow) (t .heads) t → (k : Trace) (w : List ℕ) → Gives1 k w (toldBoth s (d .numbered .number) v)
+    pub write-done : d .numbered .answer .number ≡ 0 → (s : Trace) → s ≡ traceWithFlow (d .flow) (t .heads) t → (k : Trace) (w : List ℕ) → Gives1 k w (toldBoth s (d .numbered .number) v)
         → Gives2 (record { answer = d .numbered .answer; trace = k }) u w (writtenOf payload t store large)
     write-done n s es k w h =
         let j : Gives1 k w (toldAfter had t) = subst (λ (x : Trace). Gives1 k w (toldBoth x (d .numbered .number) v)) es h in

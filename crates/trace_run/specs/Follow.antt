@@ -58,8 +58,8 @@ abbrev pub followOf : List ℕ → Trace → List ℕ → List ℕ → List ℕ 
 followOf line = followedBy (said 256 line)
 
 -- ---- the code's commands, whose numbers stand at the start of a room
-abbrev pub counted : ℕ → List ℕ → List ℕ
-counted n numbers = take (min n (length numbers)) numbers
+abbrev pub firstNumbers : ℕ → List ℕ → List ℕ
+firstNumbers n numbers = take (min n (length numbers)) numbers
 
 abbrev pub firstBy : Command → Trace → Followed
 firstBy (New w b r s) t = newStep w b r s t
@@ -75,8 +75,8 @@ abbrev pub laterBy : Command → List ℕ → Trace → List ℕ → List ℕ �
 laterBy (New w b r s) numbers t store large small = noRoom (refusedBy notUnderstood t) store large small
 laterBy (Match id) numbers t store large small = noRoom (matchedStep id t) store large small
 laterBy (Write len) numbers t store large small = inStore (writeLine len t store large) small
-laterBy (Ack id base n) numbers t store large small = inBoth (ackLine id base (counted n numbers) t large small) store
+laterBy (Ack id base n) numbers t store large small = inBoth (ackLine id base (firstNumbers n numbers) t large small) store
 laterBy (Sent id seq) numbers t store large small = inLarge (sentLine id seq t large) store small
-laterBy (Frag id seq n) numbers t store large small = inBoth (fragLine id seq (counted n numbers) t large small) store
+laterBy (Frag id seq n) numbers t store large small = inBoth (fragLine id seq (firstNumbers n numbers) t large small) store
 laterBy (Evict before) numbers t store large small = noRoom (evictStep before t) store large small
 laterBy Unknown numbers t store large small = noRoom (refusedBy notUnderstood t) store large small

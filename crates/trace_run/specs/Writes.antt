@@ -10,7 +10,7 @@ use Rattle.numbers.specs.declared.answer.Answer.{Answer}
 use Rattle.numbers.specs.declared.sequence_number.SequenceNumber.{SequenceNumber}
 use Rattle.rtps_reader_proxy.specs.declared.proxy.ReaderProxy.{ReaderProxy}
 use Rattle.rtps_reader_proxy.specs.declared.proxy.Changed.{Changed}
-use Rattle.rtps_reader_proxy.specs.Record.{unsentOk}
+use Rattle.rtps_reader_proxy.specs.Record.{unsentCoherent}
 use Rattle.rtps_reader_proxy.specs.Unsent.{notifiedOf}
 use Rattle.reader_list.specs.declared.heads.ReaderHead.{ReaderHead}
 use Rattle.reader_list.specs.Slots.{freeSlot}
@@ -20,7 +20,7 @@ use Rattle.writer_send_buffer.specs.declared.samples.Admitted.{Admitted}
 use Rattle.writer_send_buffer.specs.Samples.{admitOf, handed}
 use Rattle.trace_readers.specs.declared.state.Trace.{Trace}
 use Rattle.trace_readers.specs.declared.state.Followed.{Followed}
-use Rattle.trace_readers.specs.State.{refusedBy, incoherent, ownAnswer, withFlow}
+use Rattle.trace_readers.specs.State.{refusedBy, incoherent, ownAnswer, traceWithFlow}
 use Rattle.trace_readers.specs.Rooms.{part, put, largeFits, storeFits}
 
 -- "It notifies every reader of each admitted number"; a free slot is none
@@ -47,8 +47,8 @@ toldBoth t n large =
     }
 
 -- both readers' unsent numbers have to be coherent
-abbrev pub bothOk : Trace → List ℕ → Bool
-bothOk t large = unsentOk (t .one) (part 256 1024 large) && unsentOk (t .two) (part 1280 1024 large)
+abbrev pub bothCoherent : Trace → List ℕ → Bool
+bothCoherent t large = unsentCoherent (t .one) (part 256 1024 large) && unsentCoherent (t .two) (part 1280 1024 large)
 
 -- THE SAMPLE, in as much of the rooms as the slots take
 
@@ -69,7 +69,7 @@ admitPut f payload store large =
 -- THE LINE
 
 abbrev pub toldAfter : Left2 Admitted (List ℕ) (List ℕ) → Trace → Left1 Trace (List ℕ)
-toldAfter a t = toldBoth (withFlow (a .result .flow) (t .heads) t) (a .result .numbered .number) (a .second)
+toldAfter a t = toldBoth (traceWithFlow (a .result .flow) (t .heads) t) (a .result .numbered .number) (a .second)
 
 abbrev pub writtenBy : Left2 Admitted (List ℕ) (List ℕ) → Trace → Left2 Followed (List ℕ) (List ℕ)
 writtenBy a t =
@@ -79,9 +79,9 @@ writtenBy a t =
 
 abbrev pub writtenOf : List ℕ → Trace → List ℕ → List ℕ → Left2 Followed (List ℕ) (List ℕ)
 writtenOf payload t store large =
-    cond (isDone (ownAnswer (bothOk t large)))
+    cond (isDone (ownAnswer (bothCoherent t large)))
     (writtenBy (admitPut (t .flow) payload store large) t)
-    (record { result = refusedBy (ownAnswer (bothOk t large)) t; first = store; second = large })
+    (record { result = refusedBy (ownAnswer (bothCoherent t large)) t; first = store; second = large })
 
 -- zeros, as many as the line says; one byte too many stands for any number of bytes too many
 abbrev pub payloadOf : ℕ → List ℕ

@@ -3,7 +3,7 @@ ghost use mathlib.Core.Path.{_≡_};
 ghost use Prim.Native.Nat.{_≤_, min};
 ghost use lib.ListN.{length};
 ghost use Rattle.numbers.specs.Promise.{Gives1, Gives2};
-ghost use Rattle.trace_run.specs.Writes.{toldTo, toldBoth, bothOk, admitPut, writtenOf, writeLine};
+ghost use Rattle.trace_run.specs.Writes.{toldTo, toldBoth, bothCoherent, admitPut, writtenOf, writeLine};
 use numbers::SequenceNumber;
 use numbers::arith::smaller;
 use reader_list::ReaderHead;
@@ -34,7 +34,7 @@ fn admitted_in(
 {
     let start = 0;
     let slots = slots_in(flow.limits);
-    let end = 16 * slots;
+    let end = Trace::SLOT_BYTES * slots;
     flow.with_sample(
         &mut store[start..end],
         &mut large[start..slots],
@@ -43,7 +43,7 @@ fn admitted_in(
     )
 }
 
-// A reader's head as it is told of a number; a free slot is not told.
+// A reader's proxy as it is told of a number; a free slot is not told.
 fn told(head: ReaderHead, proxy: ReaderProxy, unsent: &mut [u64], n: SequenceNumber) -> ReaderProxy
     ensures { λ r. ⌜ Gives1 r (now (unsent .exit)) (toldTo head n proxy (now (unsent .entry))) ⌝ }
 {
@@ -56,7 +56,7 @@ fn told(head: ReaderHead, proxy: ReaderProxy, unsent: &mut [u64], n: SequenceNum
 // Whether the unsent numbers of both readers are coherent.
 fn both_ok(trace: Trace, large: &[u64]) -> bool
     requires { ⌜ length (now large) ≡ 4352 ⌝ }
-    ensures { λ r. ⌜ r ≡ bothOk trace (now (large .entry)) ⌝ }
+    ensures { λ r. ⌜ r ≡ bothCoherent trace (now (large .entry)) ⌝ }
 {
     let one = trace.one;
     let two = trace.two;
@@ -115,10 +115,10 @@ fn written(trace: Trace, payload: &[u8], store: &mut [u8], large: &mut [u64]) ->
 pub fn write_step(trace: Trace, len: u64, store: &mut [u8], large: &mut [u64]) -> Followed
     ensures { λ r. ⌜ Gives2 r (now (store .exit)) (now (large .exit)) (writeLine len trace (now (store .entry)) (now (large .entry))) ⌝ }
 {
-    if store.len() != 4096 {
+    if store.len() != Trace::STORE {
         return trace.incoherent();
     }
-    if large.len() != 4352 {
+    if large.len() != Trace::LARGE {
         return trace.incoherent();
     }
     let zeros: &[u8] = &[0, 0, 0, 0, 0, 0, 0, 0, 0, 0, 0, 0, 0, 0, 0, 0, 0];

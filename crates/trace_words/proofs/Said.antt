@@ -9,7 +9,7 @@ use borrow.Author.Tests.{ne-eqb}
 use Rattle.numbers.specs.Promise.{Left1, Gives1}
 use Rattle.sets.proofs.Loops.{here, done}
 use Rattle.trace_text.specs.Answers.{putOf}
-use Rattle.trace_words.specs.Words.{seen, shown}
+use Rattle.trace_words.specs.Words.{shownByte, shown}
 
 -- the rows that don't hold are passed by
 pub past1 : (n a : ℕ) (k l : List ℕ) → (n ≡ a → ⊥) → l ≡ cond (eqb n a) k l
@@ -22,7 +22,7 @@ pub past4 : (n a b c d : ℕ) (k l m o s : List ℕ) → (n ≡ a → ⊥) → (
 past4 n a b c d k l m o s p q r t = past1 n d o s t ∙ past3 n a b c k l m (cond (eqb n d) o s) p q r
 
 -- a line byte by byte: what is left of it, after one byte and at its end
-pub shown-next : (s out u : List ℕ) (k i r b : ℕ) → i < length s → b ≡ seen (getD s i 0) → Gives1 r u (putOf k (b ∷ []) out)
+pub shown-next : (s out u : List ℕ) (k i r b : ℕ) → i < length s → b ≡ shownByte (getD s i 0) → Gives1 r u (putOf k (b ∷ []) out)
     → putOf r (shown (drop (i + 1) s)) u ≡ putOf k (shown (drop i s)) out
 shown-next s out u k i r b h e g =
     ap (λ (x : ℕ). putOf x (shown (drop (i + 1) s)) u) (g .result)

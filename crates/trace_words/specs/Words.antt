@@ -57,28 +57,28 @@ figures last first acked =
     ++ bytes " acknowledged")))
 
 -- a line as it was read; what can't be shown is a dot
-abbrev pub seen : ℕ → ℕ
-seen b = cond (leb 32 b && ltb b 127) b 46
+abbrev pub shownByte : ℕ → ℕ
+shownByte b = cond (leb 32 b && ltb b 127) b 46
 
 abbrev pub shown : List ℕ → List ℕ
 shown [] = []
-shown (b ∷ s) = seen b ∷ shown s
+shown (b ∷ s) = shownByte b ∷ shown s
 
 -- dots for the rest of a line that is too long
-abbrev pub rest : Bool → List ℕ
-rest long = cond long (bytes "...") []
+abbrev pub dots : Bool → List ℕ
+dots long = cond long (bytes "...") []
 
 abbrev pub heading : ℕ → List ℕ → Bool → List ℕ
-heading n line long = (bytes "line " ++ decimal n) ++ (bytes ": " ++ (shown line ++ rest long))
+heading n line long = (bytes "line " ++ decimal n) ++ (bytes ": " ++ (shown line ++ dots long))
 
-abbrev pub numbered : ℕ → List ℕ
-numbered n = ((10 ∷ bytes "    answer ") ++ decimal n) ++ (bytes ", " ++ meaning n)
+abbrev pub answerWords : ℕ → List ℕ
+answerWords n = ((10 ∷ bytes "    answer ") ++ decimal n) ++ (bytes ", " ++ meaning n)
 
 -- THE THREE LINES
 abbrev pub explained : ℕ → List ℕ → Bool → ℕ → ℕ → ℕ → ℕ → List ℕ
 explained n line long answer last first acked =
     heading n line long
-    ++ (numbered answer
+    ++ (answerWords answer
     ++ ((10 ∷ bytes "    ")
     ++ (figures last first acked
     ++ (10 ∷ []))))

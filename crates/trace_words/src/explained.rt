@@ -1,7 +1,7 @@
 // The three lines: the line that was read, what its answer means, and the figures.
 ghost use Rattle.numbers.specs.Promise.{Gives1};
 ghost use Rattle.trace_text.specs.Answers.{putOf};
-ghost use Rattle.trace_words.specs.Words.{heading, numbered, explained};
+ghost use Rattle.trace_words.specs.Words.{heading, answerWords, explained};
 use crate::figures::put_figures;
 use crate::meaning::put_meaning;
 use crate::shown::put_line;
@@ -20,7 +20,7 @@ fn put_heading(out: &mut [u8], at: usize, lines: u64, line: &[u8], long: bool) -
 }
 
 fn put_numbered(out: &mut [u8], at: usize, number: u32) -> usize
-    ensures { λ r. ⌜ Gives1 r (now (out .exit)) (putOf at (numbered number) (now (out .entry))) ⌝ }
+    ensures { λ r. ⌜ Gives1 r (now (out .exit)) (putOf at (answerWords number) (now (out .entry))) ⌝ }
 {
     let k = put_field(out, at, b"\n    answer ", number as u64);
     let k = put_text(out, k, b", ");

@@ -2,13 +2,13 @@
 ghost use mathlib.Core.Path.{_≡_};
 ghost use Rattle.numbers.specs.Promise.{Gives1};
 ghost use Rattle.trace_text.specs.Answers.{putOf};
-ghost use Rattle.trace_words.specs.Words.{seen, shown, rest};
+ghost use Rattle.trace_words.specs.Words.{shownByte, shown, dots};
 use trace_text::answer::put_byte;
 use trace_text::answer::put_text;
 
 // What can't be shown is a dot.
 fn seen(b: u8) -> u8
-    ensures { λ r. ⌜ r ≡ seen b ⌝ }
+    ensures { λ r. ⌜ r ≡ shownByte b ⌝ }
 {
     if (32 <= b) & (b < 127) {
         return b;
@@ -31,7 +31,7 @@ pub fn put_line(out: &mut [u8], at: usize, line: &[u8]) -> usize
 
 // Dots for the rest of a line that is too long.
 pub fn put_rest(out: &mut [u8], at: usize, long: bool) -> usize
-    ensures { λ r. ⌜ Gives1 r (now (out .exit)) (putOf at (rest long) (now (out .entry))) ⌝ }
+    ensures { λ r. ⌜ Gives1 r (now (out .exit)) (putOf at (dots long) (now (out .entry))) ⌝ }
 {
     if long {
         return put_text(out, at, b"...");

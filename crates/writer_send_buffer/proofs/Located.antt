@@ -13,8 +13,8 @@ use Rattle.numbers.specs.declared.sequence_number.SequenceNumber.{SequenceNumbe
 use Rattle.writer_send_buffer.specs.declared.flow.WriterSendBuffer.{WriterSendBuffer}
 use Rattle.writer_send_buffer.specs.declared.samples.Located.{Located}
 use Rattle.writer_send_buffer.specs.Flow.{Flow, retained}
-use Rattle.writer_send_buffer.specs.Buffer.{view, fetched}
-use Rattle.writer_send_buffer.specs.Samples.{slotOf, startOf, isCoherentStore, hasPlace, locatedOf, locateOf}
+use Rattle.writer_send_buffer.specs.Buffer.{flowView, fetched}
+use Rattle.writer_send_buffer.specs.Samples.{slotOf, slotStart, storeCoherent, hasPlace, locatedOf, locateOf}
 use Rattle.writer_send_buffer.proofs.Sound.{sound-is}
 
 -- what a place says of the limits
@@ -43,13 +43,13 @@ module _ (f : WriterSendBuffer) (lens : List ℕ) (n : SequenceNumber) where
   abbrev told : Bool → Located
   told t =
       unless (fetched true t) (λ no. record { answer = no; start = 0; length = 0 })
-      (record { answer = done; start = startOf (view f) (rankOf n); length = getD lens (slotOf (view f) (rankOf n)) 0 })
+      (record { answer = done; start = slotStart (flowView f) (rankOf n); length = getD lens (slotOf (flowView f) (rankOf n)) 0 })
 
-  pub told-by : (t : Bool) (m : ℕ) → m ≡ rankOf n → t ≡ hasPlace (view f) (length lens) m → told t ≡ locatedOf f lens n
-  told-by t m e h = ap told (h ∙ ap (hasPlace (view f) (length lens)) e)
+  pub told-by : (t : Bool) (m : ℕ) → m ≡ rankOf n → t ≡ hasPlace (flowView f) (length lens) m → told t ≡ locatedOf f lens n
+  told-by t m e h = ap told (h ∙ ap (hasPlace (flowView f) (length lens)) e)
 
   -- in a coherent store every retained sample has a place
-  pub located-coherent : (space : ℕ) → isCoherentStore f space lens ≡ true → locatedOf f lens n ≡ locateOf f space lens n
+  pub located-coherent : (space : ℕ) → storeCoherent f space lens ≡ true → locatedOf f lens n ≡ locateOf f space lens n
   located-coherent space h =
       let so = sound-is f space lens h in
       let li = so .flow .limits in

@@ -1,6 +1,6 @@
 -- What the tests say, as facts on numbers. Assumes nothing.
 use Prim.Native.Nat.{ℕ, zero, suc, _+_, _-_, _*_, _<_, _≤_, _%_}
-use mathlib.Core.Path.{_≡_, refl, sym, ap}
+use mathlib.Core.Path.{_≡_, refl, sym, ap, _∙_}
 use mathlib.Core.Bool.{Bool, true, false, not, cond, _&&_}
 use mathlib.Core.List.{List, [], _∷_, _++_}
 use native.Mathlib.Nat.{mod-lt, add-sub-cancel, add-sub-cancel-left, add-zero, suc-add, add-suc}
@@ -18,9 +18,9 @@ use Rattle.numbers.proofs.Refused.{Clear, clear}
 use Rattle.writer_send_buffer.specs.declared.limits.Limits.{Limits}
 use Rattle.writer_send_buffer.specs.declared.flow.WriterSendBuffer.{WriterSendBuffer}
 use Rattle.writer_send_buffer.specs.declared.samples.Located.{Located}
-use Rattle.writer_send_buffer.specs.Flow.{Flow, allOf, limitRows, allowed, fitRows, fits, room, full, retained}
-use Rattle.writer_send_buffer.specs.Buffer.{view, isCoherent}
-use Rattle.writer_send_buffer.specs.Samples.{lengthsFit, storeRows, isCoherentStore, writeRows, slotOf, startOf, over, fetchRows, bytesOf, locateOf, fetchOf}
+use Rattle.writer_send_buffer.specs.Flow.{Flow, allOf, limitRows, allowed, coherentRows, flowViewCoherent, hasRoom, full, retained}
+use Rattle.writer_send_buffer.specs.Buffer.{flowView, flowCoherent}
+use Rattle.writer_send_buffer.specs.Samples.{lengthsFit, storeRows, storeCoherent, writeRows, slotOf, slotStart, withBytes, fetchRows, bytesOf, locateOf, partOf, sampleShown, noneShown, fetchOf}
 use Rattle.writer_send_buffer.proofs.Slots.{slot-in}
 
 pub holds : (bs : List Bool) → allOf bs ≡ true → (i : ℕ) → getD bs i true ≡ true
@@ -74,9 +74,9 @@ pub record Fits (f : Flow) : Type 0 where
   pub acked-in : f .acked ≤ f .last + 1
   pub are-allowed : allowed (f .limits) ≡ true
 
-pub fits-is : (f : Flow) → fits f ≡ true → Fits f
+pub fits-is : (f : Flow) → flowViewCoherent f ≡ true → Fits f
 fits-is f h =
-    let r = holds (fitRows f) h in
+    let r = holds (coherentRows f) h in
     record {
       last-most = leb-true _ _ (r 0);
       first-some = leb-true _ _ (r 1);
@@ -88,24 +88,24 @@ fits-is f h =
       are-allowed = r 7;
     }
 
-pub is-fits : (f : Flow) → Fits f → fits f ≡ true
+pub is-fits : (f : Flow) → Fits f → flowViewCoherent f ≡ true
 is-fits f h =
-    all-hold (fitRows f)
+    all-hold (coherentRows f)
     (le-leb _ _ (h .last-most), (le-leb _ _ (h .first-some), (le-leb _ _ (h .first-in), (le-leb _ _ (h .held), (le-leb _ _ (h .sent-in), (le-leb _ _ (h .acked-some), (le-leb _ _ (h .acked-in), (h .are-allowed, tt))))))))
 
 pub record Coherent (f : WriterSendBuffer) : Type 0 where
   pub last-not : negative (f .last) ≡ false
   pub sent-not : negative (f .sent) ≡ false
-  pub numbers : Fits (view f)
+  pub numbers : Fits (flowView f)
   pub limits : Allowed (f .limits)
 
-pub coherent-is : (f : WriterSendBuffer) → isCoherent f ≡ true → Coherent f
+pub coherent-is : (f : WriterSendBuffer) → flowCoherent f ≡ true → Coherent f
 coherent-is f h =
-    let k = and-right (not (negative (f .last))) (not (negative (f .sent)) && fits (view f)) h in
-    let n = fits-is (view f) (and-right (not (negative (f .sent))) (fits (view f)) k) in
+    let k = and-right (not (negative (f .last))) (not (negative (f .sent)) && flowViewCoherent (flowView f)) h in
+    let n = fits-is (flowView f) (and-right (not (negative (f .sent))) (flowViewCoherent (flowView f)) k) in
     record {
-      last-not = of-not (negative (f .last)) (and-left (not (negative (f .last))) (not (negative (f .sent)) && fits (view f)) h);
-      sent-not = of-not (negative (f .sent)) (and-left (not (negative (f .sent))) (fits (view f)) k);
+      last-not = of-not (negative (f .last)) (and-left (not (negative (f .last))) (not (negative (f .sent)) && flowViewCoherent (flowView f)) h);
+      sent-not = of-not (negative (f .sent)) (and-left (not (negative (f .sent))) (flowViewCoherent (flowView f)) k);
       numbers = n;
       limits = allowed-is (f .limits) (n .are-allowed);
     }
@@ -121,7 +121,7 @@ pub record Sound (f : WriterSendBuffer) (space : ℕ) (lens : List ℕ) : Type 0
   pub space-is : space ≡ f .limits .slots * f .limits .«slot_bytes»
   pub lens-fit : lengthsFit lens (length lens) (f .limits .«slot_bytes») (rankOf (f .first) - 1) (rankOf (f .last) + 1 - rankOf (f .first)) ≡ true
 
-pub sound-is : (f : WriterSendBuffer) (space : ℕ) (lens : List ℕ) → isCoherentStore f space lens ≡ true → Sound f space lens
+pub sound-is : (f : WriterSendBuffer) (space : ℕ) (lens : List ℕ) → storeCoherent f space lens ≡ true → Sound f space lens
 sound-is f space lens h =
     let r = holds (storeRows f space lens) h in
     record { flow = coherent-is f (r 0); lens-length = eqb-true _ _ (r 1); space-is = eqb-true _ _ (r 2); lens-fit = r 3 }
@@ -131,17 +131,17 @@ pub record Writes (f : WriterSendBuffer) (space : ℕ) (lens : List ℕ) (len : 
   pub sound : Sound f space lens
   pub fits : len ≤ f .limits .«slot_bytes»
   pub number : rankOf (f .last) ≡ 9223372036854775806 → ⊥
-  pub has-room : room (view f) opted ≡ true
-  pub slot-free : full (view f) opted ≡ false
+  pub has-room : hasRoom (flowView f) opted ≡ true
+  pub slot-free : full (flowView f) opted ≡ false
 
 pub writes-is : (f : WriterSendBuffer) (space : ℕ) (lens : List ℕ) (len : ℕ) (opted : Bool) → Clear (writeRows f space lens len opted) → Writes f space lens len opted
 writes-is f space lens len opted c =
     record {
-      sound = sound-is f space lens (not-false _ (c .incoherent));
-      fits = ltb-false _ _ (c .payload);
-      number = eqb-false _ _ (c .used-up);
-      has-room = not-false _ (c .would-block);
-      slot-free = c .store-full;
+      sound = sound-is f space lens (not-false _ (c 1 refl));
+      fits = ltb-false _ _ (c 4 refl);
+      number = eqb-false _ _ (c 5 refl);
+      has-room = not-false _ (c 6 refl);
+      slot-free = c 7 refl;
     }
 
 pub written-is : (f : WriterSendBuffer) (space : ℕ) (lens : List ℕ) (len : ℕ) (opted : Bool) (a : Answer) → a ≡ answerOf (writeRows f space lens len opted) → a .number ≡ 0
@@ -156,7 +156,7 @@ pub next-slot : (f : Flow) (n : ℕ) → slotOf f (n + 1) ≡ n % f .limits .slo
 next-slot f n = ap (λ (m : ℕ). m % f .limits .slots) (add-sub-cancel n 1)
 
 -- what is copied into a part of the store
-pub over-is : (s : List ℕ) (a : ℕ) (p : List ℕ) → take a s ++ (p ++ drop (a + length p - a) (drop a s)) ≡ over s a p
+pub over-is : (s : List ℕ) (a : ℕ) (p : List ℕ) → take a s ++ (p ++ drop (a + length p - a) (drop a s)) ≡ withBytes s a p
 over-is s a p = rw (add-sub-cancel-left, drop-drop)
 
 -- ---- a retained sample
@@ -180,9 +180,9 @@ pub record Fetches (f : WriterSendBuffer) (space : ℕ) (lens : List ℕ) (n : �
 
 pub fetches-is : (f : WriterSendBuffer) (space : ℕ) (lens : List ℕ) (n : SequenceNumber) → Clear (fetchRows f space lens n) → Fetches f space lens (rankOf n)
 fetches-is f space lens n c =
-    let r : retained (rankOf n) (view f) ≡ true = not-false _ (c .nothing) in
+    let r : retained (rankOf n) (flowView f) ≡ true = not-false _ (c 14 refl) in
     record {
-      sound = sound-is f space lens (not-false _ (c .incoherent));
+      sound = sound-is f space lens (not-false _ (c 1 refl));
       low = leb-true _ _ (and-left (leb (rankOf (f .first)) (rankOf n)) (leb (rankOf n) (rankOf (f .last))) r);
       high = leb-true _ _ (and-right (leb (rankOf (f .first)) (rankOf n)) (leb (rankOf n) (rankOf (f .last))) r);
     }
@@ -191,24 +191,25 @@ pub fetched-is : (f : WriterSendBuffer) (space : ℕ) (lens : List ℕ) (n : Seq
 fetched-is f space lens n a q e = fetches-is f space lens n (clear (fetchRows f space lens n) a q e)
 
 module _ (f : WriterSendBuffer) (space : ℕ) (lens : List ℕ) (so : Sound f space lens) (n : ℕ) (low : rankOf (f .first) ≤ n) (high : n ≤ rankOf (f .last)) where
-  pub length-fits : getD lens (slotOf (view f) n) 0 ≤ f .limits .«slot_bytes»
+  pub length-fits : getD lens (slotOf (flowView f) n) 0 ≤ f .limits .«slot_bytes»
   length-fits =
       let q : rankOf (f .first) - 1 + (n - rankOf (f .first)) ≡ n - 1 = omega (arith, so .flow .numbers .first-some) in
       let h : getD lens ((rankOf (f .first) - 1 + (n - rankOf (f .first))) % length lens) 0 ≤ f .limits .«slot_bytes» =
       fit-at lens (length lens) (f .limits .«slot_bytes») (rankOf (f .first) - 1) (rankOf (f .last) + 1 - rankOf (f .first)) (n - rankOf (f .first)) (so .lens-fit) (omega arith) in
       rw (q, so .lens-length) at h
 
-  pub sample-in : startOf (view f) n + getD lens (slotOf (view f) n) 0 ≤ space
+  pub sample-in : slotStart (flowView f) n + getD lens (slotOf (flowView f) n) 0 ≤ space
   sample-in = omega (arith, length-fits, slot-in (f .limits .«slot_bytes») (slot-below f (n - 1) (so .flow .limits)), so .space-is)
 
 -- ---- the part that is fetched
 module _ (f : WriterSendBuffer) (space : ℕ) (lens : List ℕ) (n : SequenceNumber) where
   abbrev found : Located
-  found = record { answer = done; start = startOf (view f) (rankOf n); length = getD lens (slotOf (view f) (rankOf n)) 0 }
+  found = record { answer = done; start = slotStart (flowView f) (rankOf n); length = getD lens (slotOf (flowView f) (rankOf n)) 0 }
 
   abbrev gone : Located
   gone = record { answer = answerOf (fetchRows f space lens n); start = 0; length = 0 }
 
+  -- what `locate` names lies within the store, so who cuts there, as the C side does, reads the store alone
   pub located-in : locateOf f space lens n .start + locateOf f space lens n .length ≤ space
   located-in = go (isDone (answerOf (fetchRows f space lens n))) refl
     where
@@ -218,9 +219,16 @@ module _ (f : WriterSendBuffer) (space : ℕ) (lens : List ℕ) (n : SequenceNum
           sample-in f space lens (k .sound) (rankOf n) (k .low) (k .high)
       go false e = omega arith
 
-  pub shown-is : (s : List ℕ) → length s ≡ space → take (locateOf f space lens n .start + locateOf f space lens n .length - locateOf f space lens n .start) (drop (locateOf f space lens n .start) s) ≡ fetchOf f s lens n
-  shown-is s q = rw (add-sub-cancel-left, q) (go (isDone (answerOf (fetchRows f space lens n))))
+  fetched-there : (s : List ℕ) → length s ≡ space → record { answer = locateOf f space lens n .answer; bytes = partOf (locateOf f space lens n) s } ≡ fetchOf f s lens n
+  fetched-there s q = rw q (go (isDone (answerOf (fetchRows f space lens n))))
     where
-      go : (t : Bool) → take (cond t found gone .length) (drop (cond t found gone .start) s) ≡ cond t (bytesOf (view f) s lens (rankOf n)) []
+      go : (t : Bool) → record { answer = cond t found gone .answer; bytes = partOf (cond t found gone) s } ≡ cond t (sampleShown (bytesOf (flowView f) s lens (rankOf n))) (noneShown (answerOf (fetchRows f space lens n)))
       go true = refl
       go false = refl
+
+-- what is shown of a part that was located
+pub fetched-at : (f : WriterSendBuffer) (s lens : List ℕ) (n : SequenceNumber) (at : Located) (bytes : List ℕ) → at ≡ locateOf f (length s) lens n → bytes ≡ partOf at s → record { answer = at .answer; bytes = bytes } ≡ fetchOf f s lens n
+fetched-at f s lens n at bytes p q =
+    ap (λ (b : List ℕ). record { answer = at .answer; bytes = b }) q
+    ∙ ap (λ (a : Located). record { answer = a .answer; bytes = partOf a s }) p
+    ∙ fetched-there f (length s) lens n s refl

@@ -16,8 +16,8 @@ use Rattle.numbers.proofs.Refused.{clear}
 use Rattle.writer_send_buffer.specs.declared.limits.Kind.{Kind}
 use Rattle.writer_send_buffer.specs.declared.limits.Limits.{Limits}
 use Rattle.writer_send_buffer.specs.declared.flow.WriterSendBuffer.{WriterSendBuffer}
-use Rattle.writer_send_buffer.specs.Flow.{Flow, allowed, fits, blank, trims, full, usedUp, trimmed, admitted, ahead, stored, raised, evicted}
-use Rattle.writer_send_buffer.specs.Buffer.{view, form, isCoherent, ranged}
+use Rattle.writer_send_buffer.specs.Flow.{Flow, allowed, flowViewCoherent, blank, trims, full, usedUp, trimmed, admitted, ahead, stored, raised, evicted}
+use Rattle.writer_send_buffer.specs.Buffer.{flowView, flowForm, flowCoherent, ranged}
 use Rattle.writer_send_buffer.proofs.Sound.{Fits, Allowed, allowed-is, is-fits, coherent-is}
 
 -- ---- numbers
@@ -47,7 +47,7 @@ positive s h = go (s .0) h
     go (negsuc n) h = absurd (omega arith)
 
 -- ---- the record on natural numbers, and back
-pub view-form : (f : Flow) → Fits f → view (form f) ≡ f
+pub view-form : (f : Flow) → Fits f → flowView (flowForm f) ≡ f
 view-form f h =
     let l = rank-at (f .last) (omega (arith, h .last-most)) in
     let r = rank-at (f .first) (omega (arith, h .first-in, h .last-most)) in
@@ -55,7 +55,7 @@ view-form f h =
     let a = rank-at (f .acked) (omega (arith, h .acked-in, h .last-most)) in
     λ i. record { last = l i; first = r i; sent = s i; acked = a i; present = f .present; kind = f .kind; limits = f .limits }
 
-pub form-view : (f : WriterSendBuffer) → isCoherent f ≡ true → form (view f) ≡ f
+pub form-view : (f : WriterSendBuffer) → flowCoherent f ≡ true → flowForm (flowView f) ≡ f
 form-view f e =
     let c = coherent-is f e in
     let h = c .numbers in
@@ -66,10 +66,10 @@ form-view f e =
     λ i. record { last = l i; first = r i; sent = s i; acked = a i; present = f .present; kind = f .kind; limits = f .limits }
 
 -- a coherent record comes of each that fits
-pub form-coherent : (f : Flow) → Fits f → isCoherent (form f) ≡ true
+pub form-coherent : (f : Flow) → Fits f → flowCoherent (flowForm f) ≡ true
 form-coherent f h =
-    and-both (not (negative (numberAt (f .last)))) (not (negative (numberAt (f .sent))) && fits (view (form f))) (ap not (at-least-0 (f .last)))
-    (and-both (not (negative (numberAt (f .sent)))) (fits (view (form f))) (ap not (at-least-0 (f .sent))) (ap fits (view-form f h) ∙ is-fits f h))
+    and-both (not (negative (numberAt (f .last)))) (not (negative (numberAt (f .sent))) && flowViewCoherent (flowView (flowForm f))) (ap not (at-least-0 (f .last)))
+    (and-both (not (negative (numberAt (f .sent)))) (flowViewCoherent (flowView (flowForm f))) (ap not (at-least-0 (f .sent))) (ap flowViewCoherent (view-form f h) ∙ is-fits f h))
 
 -- ---- the steps
 pub fits-blank : (k : Kind) (l : Limits) → allowed l ≡ true → Fits (blank k l)
@@ -170,14 +170,14 @@ module _ (f : Flow) (h : Fits f) where
 -- what holds of a record and of what a step makes of it holds of what the call leaves, refused or not
 module _ {A : Type 0} (P : WriterSendBuffer → Type 0) (say : Answer → A) (ok : A) (f : WriterSendBuffer) (out : Bool) (g : Flow) where
   abbrev pub leftBy : Left1 A WriterSendBuffer
-  leftBy = unless (ranged (isCoherent f) out) (λ a. record { result = say a; first = f }) (record { result = ok; first = form g })
+  leftBy = unless (ranged (flowCoherent f) out) (λ a. record { result = say a; first = f }) (record { result = ok; first = flowForm g })
 
-  pub by-range : P f → (Fits (view f) → out ≡ false → P (form g)) → P (leftBy .first)
-  by-range p q = go (isDone (answerOf (ranged (isCoherent f) out))) refl
+  pub by-range : P f → (Fits (flowView f) → out ≡ false → P (flowForm g)) → P (leftBy .first)
+  by-range p q = go (isDone (answerOf (ranged (flowCoherent f) out))) refl
     where
-      go : (t : Bool) → isDone (answerOf (ranged (isCoherent f) out)) ≡ t
-          → P (cond {A = Left1 A WriterSendBuffer} t (record { result = ok; first = form g }) (record { result = say (answerOf (ranged (isCoherent f) out)); first = f }) .first)
+      go : (t : Bool) → isDone (answerOf (ranged (flowCoherent f) out)) ≡ t
+          → P (cond {A = Left1 A WriterSendBuffer} t (record { result = ok; first = flowForm g }) (record { result = say (answerOf (ranged (flowCoherent f) out)); first = f }) .first)
       go true d =
-          let c = clear (ranged (isCoherent f) out) (answerOf (ranged (isCoherent f) out)) refl (eqb-true _ _ d) in
-          q (coherent-is f (not-false _ (c .incoherent)) .numbers) (c .range)
+          let c = clear (ranged (flowCoherent f) out) (answerOf (ranged (flowCoherent f) out)) refl (eqb-true _ _ d) in
+          q (coherent-is f (not-false _ (c 1 refl)) .numbers) (c 2 refl)
       go false d = p

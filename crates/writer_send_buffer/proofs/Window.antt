@@ -7,16 +7,16 @@ use lib.Dec.{leb, ltb}
 use borrow.Author.Tests.{leb-false, ltb-true, le-ltb}
 use Rattle.sets.proofs.Bools.{and-left, and-right}
 use Rattle.numbers.specs.Refusals.{answerOf}
-use Rattle.writer_send_buffer.specs.Flow.{Flow, mayBlock, room, trims, full, usedUp, admitted, admitRows}
+use Rattle.writer_send_buffer.specs.Flow.{Flow, mayBlock, hasRoom, trims, full, usedUp, admitted, admitRows}
 use Rattle.writer_send_buffer.proofs.Sound.{Fits}
 
 module _ (f : Flow) (opted : Bool) (plain : f .kind .builtin ≡ false) where
   module _ (blocks : mayBlock f opted ≡ true) where
-    rest : room f opted ≡ true → (not (leb (f .limits .backlog) (f .last - f .sent)) && (not (f .kind .reliable) || (not (f .present) || ltb (f .last + 1 - f .acked) (f .limits .window)))) ≡ true
+    rest : hasRoom f opted ≡ true → (not (leb (f .limits .backlog) (f .last - f .sent)) && (not (f .kind .reliable) || (not (f .present) || ltb (f .last + 1 - f .acked) (f .limits .window)))) ≡ true
     rest e = rw (plain, blocks) at e
 
     -- "any write that may block leaves at most `backlog` unsent"
-    pub backlog-kept : room f opted ≡ true → admitted f opted .last - f .sent ≤ f .limits .backlog
+    pub backlog-kept : hasRoom f opted ≡ true → admitted f opted .last - f .sent ≤ f .limits .backlog
     backlog-kept e =
         let k : f .last - f .sent < f .limits .backlog = leb-false _ _ (of-not (leb (f .limits .backlog) (f .last - f .sent)) (and-left (not (leb (f .limits .backlog) (f .last - f .sent))) (not (f .kind .reliable) || (not (f .present) || ltb (f .last + 1 - f .acked) (f .limits .window))) (rest e))) in
         omega arith
@@ -26,7 +26,7 @@ module _ (f : Flow) (opted : Bool) (plain : f .kind .builtin ≡ false) where
         of-not false e = refl
 
   -- with a reliable reader, a reliable writer's write leaves at most `window` numbers from the stored frontier through the last
-  pub window-kept : f .kind .reliable ≡ true → f .present ≡ true → room f opted ≡ true → admitted f opted .last + 1 - f .acked ≤ f .limits .window
+  pub window-kept : f .kind .reliable ≡ true → f .present ≡ true → hasRoom f opted ≡ true → admitted f opted .last + 1 - f .acked ≤ f .limits .window
   window-kept r p e =
       let b : mayBlock f opted ≡ true = ap (λ (t : Bool). t || opted) r in
       let q : ltb (f .last + 1 - f .acked) (f .limits .window) ≡ true =
@@ -35,10 +35,10 @@ module _ (f : Flow) (opted : Bool) (plain : f .kind .builtin ≡ false) where
       omega arith
 
 -- where all is coherent, the payload fits and numbers are left, a write is answered 6 just where it has no room
-pub would-block : (len : ℕ) (f : Flow) (opted : Bool) → len ≤ f .limits .«slot_bytes» → usedUp f ≡ false → room f opted ≡ false → answerOf (admitRows true len f opted) .number ≡ 6
+pub would-block : (len : ℕ) (f : Flow) (opted : Bool) → len ≤ f .limits .«slot_bytes» → usedUp f ≡ false → hasRoom f opted ≡ false → answerOf (admitRows true len f opted) .number ≡ 6
 would-block len f opted l u e = rw (le-ltb (f .limits .«slot_bytes») len l, u, e)
 
-pub would-not-block : (len : ℕ) (f : Flow) (opted : Bool) → room f opted ≡ true → answerOf (admitRows true len f opted) .number ≡ 6 → ⊥
+pub would-not-block : (len : ℕ) (f : Flow) (opted : Bool) → hasRoom f opted ≡ true → answerOf (admitRows true len f opted) .number ≡ 6 → ⊥
 would-not-block len f opted e six = go (ltb (f .limits .«slot_bytes») len) (usedUp f) (full f opted) (rw e at six)
   where
     go : (a b c : Bool) → _≡_ {A = ℕ} (cond a 4 (cond b 5 (cond c 7 0))) 6 → ⊥

@@ -1,12 +1,12 @@
 -- The flow record as it is declared, and what each call on it leaves. Assumes nothing.
+use mathlib.Core.Path.{refl}
 use mathlib.Core.Bool.{Bool, false, not, _&&_}
 use mathlib.Core.List.{[], _∷_}
 use lib.Dec.{ltb}
 use Rattle.numbers.specs.Number.{rankOf, negative, numberAt}
-use Rattle.numbers.specs.Refusals.{row, rowsOf, unless, done}
+use Rattle.numbers.specs.Refusals.{row, unless, done, Rows}
 use Rattle.numbers.specs.Promise.{Left1}
 use Rattle.numbers.specs.declared.answer.Answer.{Answer}
-use Rattle.numbers.specs.declared.answer.Rows.{Rows}
 use Rattle.numbers.specs.declared.sequence_number.SequenceNumber.{SequenceNumber}
 use Rattle.reader_list.specs.Slots.{frontierOf}
 use Rattle.writer_send_buffer.specs.declared.limits.Kind.{Kind}
@@ -17,36 +17,37 @@ use Rattle.writer_send_buffer.specs.declared.flow.Numbered.{Numbered}
 use Rattle.writer_send_buffer.specs.declared.flow.Moved.{Moved}
 use Rattle.reader_list.specs.declared.heads.AckedFrontier.{AckedFrontier}
 use Rattle.writer_send_buffer.specs.declared.frontiers.Woken.{Woken}
-use Rattle.writer_send_buffer.specs.Flow.{Flow, allowed, counted, fits, blank, room, ahead, unwritten, stored, wakes, raised, ackedThrough, evicted}
+use Rattle.writer_send_buffer.specs.Flow.{Flow, allowed, limitsCounted, flowViewCoherent, blank, hasRoom, ahead}
+use Rattle.writer_send_buffer.specs.Flow.{unwritten, stored, wakes, raised, ackedThrough, evicted}
 
 -- the record on natural numbers, and back
-abbrev pub view : WriterSendBuffer → Flow
-view f = record { last = rankOf (f .last); first = rankOf (f .first); sent = rankOf (f .sent); acked = rankOf (f .acked); present = f .present; kind = f .kind; limits = f .limits }
+abbrev pub flowView : WriterSendBuffer → Flow
+flowView f = record { last = rankOf (f .last); first = rankOf (f .first); sent = rankOf (f .sent); acked = rankOf (f .acked); present = f .present; kind = f .kind; limits = f .limits }
 
-abbrev pub form : Flow → WriterSendBuffer
-form f = record { last = numberAt (f .last); first = numberAt (f .first); sent = numberAt (f .sent); acked = numberAt (f .acked); present = f .present; kind = f .kind; limits = f .limits }
+abbrev pub flowForm : Flow → WriterSendBuffer
+flowForm f = record { last = numberAt (f .last); first = numberAt (f .first); sent = numberAt (f .sent); acked = numberAt (f .acked); present = f .present; kind = f .kind; limits = f .limits }
 
 -- no number that is to be at least 0 is below it, and the natural numbers fit each other
-abbrev pub isCoherent : WriterSendBuffer → Bool
-isCoherent f = not (negative (f .last)) && (not (negative (f .sent)) && fits (view f))
+abbrev pub flowCoherent : WriterSendBuffer → Bool
+flowCoherent f = not (negative (f .last)) && (not (negative (f .sent)) && flowViewCoherent (flowView f))
 
 -- THE ROWS
 
 abbrev pub limited : Bool → Rows
-limited limit = rowsOf (row 13 limit ∷ [])
+limited limit = row 13 refl limit ∷ []
 
 abbrev pub ranged : Bool → Bool → Rows
-ranged coherent range = rowsOf (row 1 (not coherent) ∷ row 2 range ∷ [])
+ranged coherent range = row 1 refl (not coherent) ∷ row 2 refl range ∷ []
 
 abbrev pub fetched : Bool → Bool → Rows
-fetched coherent there = rowsOf (row 1 (not coherent) ∷ row 14 (not there) ∷ [])
+fetched coherent there = row 1 refl (not coherent) ∷ row 14 refl (not there) ∷ []
 
 -- A NEW WRITER
 
 -- a refusal's: all zeros
 abbrev pub zeroed : WriterSendBuffer
 zeroed =
-    form
+    flowForm
     (record {
       last = 0;
       first = 0;
@@ -58,51 +59,51 @@ zeroed =
     })
 
 -- "13: capacity or limit not allowed"
-abbrev pub newOf : Kind → Limits → Moved
-newOf k l = unless (limited (not (allowed (counted l)))) (λ a. record { answer = a; flow = zeroed }) (record { answer = done; flow = form (blank k (counted l)) })
+abbrev pub newFlowOf : Kind → Limits → Moved
+newFlowOf k l = unless (limited (not (allowed (limitsCounted l)))) (λ a. record { answer = a; flow = zeroed }) (record { answer = done; flow = flowForm (blank k (limitsCounted l)) })
 
 -- QUESTIONS
 
 abbrev pub questioned : {A : Type 0} → WriterSendBuffer → (Answer → A) → A → A
-questioned f refused d = unless (ranged (isCoherent f) false) refused d
+questioned f refused d = unless (ranged (flowCoherent f) false) refused d
 
 abbrev pub toldNo : Answer → Told
 toldNo a = record { answer = a; yes = false }
 
-abbrev pub noNumber : Answer → Numbered
-noNumber a = record { answer = a; number = numberAt 0 }
+abbrev pub numberedNo : Answer → Numbered
+numberedNo a = record { answer = a; number = numberAt 0 }
 
-abbrev pub roomOf : WriterSendBuffer → Bool → Told
-roomOf f opted = questioned f toldNo (record { answer = done; yes = room (view f) opted })
+abbrev pub hasRoomOf : WriterSendBuffer → Bool → Told
+hasRoomOf f opted = questioned f toldNo (record { answer = done; yes = hasRoom (flowView f) opted })
 
 abbrev pub throughOf : WriterSendBuffer → SequenceNumber → Told
-throughOf f t = questioned f toldNo (record { answer = done; yes = ackedThrough (rankOf t) (view f) })
+throughOf f t = questioned f toldNo (record { answer = done; yes = ackedThrough (rankOf t) (flowView f) })
 
 abbrev pub firstOf : WriterSendBuffer → Numbered
-firstOf f = questioned f noNumber (record { answer = done; number = f .first })
+firstOf f = questioned f numberedNo (record { answer = done; number = f .first })
 
 abbrev pub lastOf : WriterSendBuffer → Numbered
-lastOf f = questioned f noNumber (record { answer = done; number = f .last })
+lastOf f = questioned f numberedNo (record { answer = done; number = f .last })
 
 -- FRONTIERS AND EVICTION
 
 abbrev pub ackedOf : WriterSendBuffer → AckedFrontier → Left1 Told WriterSendBuffer
 ackedOf f a =
-    unless (ranged (isCoherent f) (ahead (frontierOf a) (view f)))
+    unless (ranged (flowCoherent f) (ahead (frontierOf a) (flowView f)))
     (λ no. record { result = toldNo no; first = f })
-    (record { result = record { answer = done; yes = wakes (frontierOf a) (view f) }; first = form (stored (frontierOf a) (view f)) })
+    (record { result = record { answer = done; yes = wakes (frontierOf a) (flowView f) }; first = flowForm (stored (frontierOf a) (flowView f)) })
 
 abbrev pub sentOf : WriterSendBuffer → SequenceNumber → Left1 Told WriterSendBuffer
 sentOf f n =
-    unless (ranged (isCoherent f) (unwritten (rankOf n) (view f)))
+    unless (ranged (flowCoherent f) (unwritten (rankOf n) (flowView f)))
     (λ no. record { result = toldNo no; first = f })
-    (record { result = record { answer = done; yes = ltb (rankOf (f .sent)) (rankOf n) }; first = form (raised (rankOf n) (view f)) })
+    (record { result = record { answer = done; yes = ltb (rankOf (f .sent)) (rankOf n) }; first = flowForm (raised (rankOf n) (flowView f)) })
 
 abbrev pub evictOf : WriterSendBuffer → SequenceNumber → Left1 Answer WriterSendBuffer
 evictOf f n =
-    unless (ranged (isCoherent f) (ahead (rankOf n) (view f)))
+    unless (ranged (flowCoherent f) (ahead (rankOf n) (flowView f)))
     (λ no. record { result = no; first = f })
-    (record { result = done; first = form (evicted (rankOf n) (view f)) })
+    (record { result = done; first = flowForm (evicted (rankOf n) (flowView f)) })
 
 -- the same, as the structs that the by-value calls return
 abbrev pub woken : Left1 Told WriterSendBuffer → Woken

@@ -1,12 +1,12 @@
 -- The flow record on natural numbers, and document 01's steps on it. The promises of the code and the theorem about both ends cite these.
 -- Every one computes. Assumes nothing.
+use mathlib.Core.Path.{refl}
 use Prim.Native.Nat.{ℕ, _+_, _-_, max}
 use mathlib.Core.Bool.{Bool, true, false, not, cond, _&&_, _||_}
 use mathlib.Core.List.{List, [], _∷_}
 use lib.Dec.{ltb, leb, eqb}
-use Rattle.numbers.specs.Number.{topNumber}
-use Rattle.numbers.specs.Refusals.{row, rowsOf}
-use Rattle.numbers.specs.declared.answer.Rows.{Rows}
+use Rattle.numbers.specs.Capacities.{mostWindow, mostSlots, mostSlotBytes, topNumber}
+use Rattle.numbers.specs.Refusals.{row, Rows}
 use Rattle.writer_send_buffer.specs.declared.limits.Kind.{Kind}
 use Rattle.writer_send_buffer.specs.declared.limits.Limits.{Limits}
 
@@ -30,19 +30,19 @@ allOf (b ∷ (c ∷ bs)) = b && allOf (c ∷ bs)
 -- "sample slots S; bytes per slot: 1 to 256; 1 to 8,192", "window, backlog: up to 2^31−1", "retain: up to S"; none 0
 abbrev pub limitRows : Limits → List Bool
 limitRows l =
-    leb 1 (l .window) ∷ leb (l .window) 2147483647
-    ∷ leb 1 (l .backlog) ∷ leb (l .backlog) 2147483647
+    leb 1 (l .window) ∷ leb (l .window) mostWindow
+    ∷ leb 1 (l .backlog) ∷ leb (l .backlog) mostWindow
     ∷ leb 1 (l .retain) ∷ leb (l .retain) (l .slots)
-    ∷ leb 1 (l .slots) ∷ leb (l .slots) 256
-    ∷ leb 1 (l .«slot_bytes») ∷ leb (l .«slot_bytes») 8192
+    ∷ leb 1 (l .slots) ∷ leb (l .slots) mostSlots
+    ∷ leb 1 (l .«slot_bytes») ∷ leb (l .«slot_bytes») mostSlotBytes
     ∷ []
 
 abbrev pub allowed : Limits → Bool
 allowed l = allOf (limitRows l)
 
 -- "0 ≤ last ≤ 2^63−2, 1 ≤ first ≤ last+1, last+1−first ≤ S, 0 ≤ sent ≤ last, 1 ≤ acked ≤ last+1 and its limits, none 0, are within the table"
-abbrev pub fitRows : Flow → List Bool
-fitRows f =
+abbrev pub coherentRows : Flow → List Bool
+coherentRows f =
     leb (f .last) topNumber
     ∷ leb 1 (f .first) ∷ leb (f .first) (f .last + 1)
     ∷ leb (f .last + 1 - f .first) (f .limits .slots)
@@ -51,16 +51,16 @@ fitRows f =
     ∷ allowed (f .limits)
     ∷ []
 
-abbrev pub fits : Flow → Bool
-fits f = allOf (fitRows f)
+abbrev pub flowViewCoherent : Flow → Bool
+flowViewCoherent f = allOf (coherentRows f)
 
 -- a new writer's: nothing written, sent or retained, and no reader
 abbrev pub blank : Kind → Limits → Flow
 blank k l = record { last = 0; first = 1; sent = 0; acked = 1; present = false; kind = k; limits = l }
 
 -- "0 counts as 1"
-abbrev pub counted : Limits → Limits
-counted l = record { window = max 1 (l .window); backlog = max 1 (l .backlog); retain = max 1 (l .retain); slots = l .slots; «slot_bytes» = l .«slot_bytes» }
+abbrev pub limitsCounted : Limits → Limits
+limitsCounted l = record { window = max 1 (l .window); backlog = max 1 (l .backlog); retain = max 1 (l .retain); slots = l .slots; «slot_bytes» = l .«slot_bytes» }
 
 -- ADMISSION
 
@@ -69,8 +69,8 @@ abbrev pub mayBlock : Flow → Bool → Bool
 mayBlock f opted = f .kind .reliable || opted
 
 -- "built-in, yes; not may-block, yes; last−sent ≥ backlog, no; not reliable or no reliable reader, yes; else last−acked+1 < window"
-abbrev pub room : Flow → Bool → Bool
-room f opted =
+abbrev pub hasRoom : Flow → Bool → Bool
+hasRoom f opted =
     f .kind .builtin
     || (not (mayBlock f opted)
     || (not (leb (f .limits .backlog) (f .last - f .sent))
@@ -101,12 +101,11 @@ admitted f opted = record { last = f .last + 1; first = trimmed f opted; sent = 
 -- what refuses a write of `len` bytes: the record and the lent store aren't coherent, 4, 5, 6, 7
 abbrev pub admitRows : Bool → ℕ → Flow → Bool → Rows
 admitRows coherent len f opted =
-    rowsOf
-    (row 1 (not coherent)
-    ∷ row 4 (ltb (f .limits .«slot_bytes») len)
-    ∷ row 5 (usedUp f)
-    ∷ row 6 (not (room f opted))
-    ∷ row 7 (full f opted)
+    (row 1 refl (not coherent)
+    ∷ row 4 refl (ltb (f .limits .«slot_bytes») len)
+    ∷ row 5 refl (usedUp f)
+    ∷ row 6 refl (not (hasRoom f opted))
+    ∷ row 7 refl (full f opted)
     ∷ [])
 
 -- FRONTIERS. A frontier is a number from 1 on; 0 stands for an absent one.

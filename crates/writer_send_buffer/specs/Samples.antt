@@ -4,17 +4,20 @@ use mathlib.Core.Bool.{Bool, true, _&&_}
 use mathlib.Core.List.{List, [], _∷_, _++_}
 use lib.ListN.{length, take, drop, getD, set}
 use lib.Dec.{leb, eqb}
+use denote.Ref.{now}
+use Rattle.numbers.specs.Capacities.{mostSlots, mostSlotBytes}
 use Rattle.numbers.specs.Number.{rankOf, numberAt}
-use Rattle.numbers.specs.Refusals.{unless, done}
+use Rattle.numbers.specs.Refusals.{unless, done, Rows}
 use Rattle.numbers.specs.Promise.{Left2, Left3}
-use Rattle.numbers.specs.declared.answer.Rows.{Rows}
+use Rattle.numbers.specs.declared.answer.Answer.{Answer}
 use Rattle.numbers.specs.declared.sequence_number.SequenceNumber.{SequenceNumber}
 use Rattle.writer_send_buffer.specs.declared.flow.WriterSendBuffer.{WriterSendBuffer}
 use Rattle.writer_send_buffer.specs.declared.flow.Numbered.{Numbered}
 use Rattle.writer_send_buffer.specs.declared.samples.Admitted.{Admitted}
 use Rattle.writer_send_buffer.specs.declared.samples.Located.{Located}
+use Rattle.writer_send_buffer.specs.declared.samples.Fetched.{Fetched}
 use Rattle.writer_send_buffer.specs.Flow.{Flow, allOf, admitRows, admitted, retained}
-use Rattle.writer_send_buffer.specs.Buffer.{view, form, isCoherent, noNumber, fetched}
+use Rattle.writer_send_buffer.specs.Buffer.{flowView, flowForm, flowCoherent, numberedNo, fetched}
 
 -- WHERE A SAMPLE STANDS
 
@@ -22,16 +25,16 @@ use Rattle.writer_send_buffer.specs.Buffer.{view, form, isCoherent, noNu
 abbrev pub slotOf : Flow → ℕ → ℕ
 slotOf f n = (n - 1) % f .limits .slots
 
-abbrev pub startOf : Flow → ℕ → ℕ
-startOf f n = slotOf f n * f .limits .«slot_bytes»
+abbrev pub slotStart : Flow → ℕ → ℕ
+slotStart f n = slotOf f n * f .limits .«slot_bytes»
 
 -- the bytes of sample n, in the store s
 abbrev pub bytesOf : Flow → List ℕ → List ℕ → ℕ → List ℕ
-bytesOf f s lens n = take (getD lens (slotOf f n) 0) (drop (startOf f n) s)
+bytesOf f s lens n = take (getD lens (slotOf f n) 0) (drop (slotStart f n) s)
 
 -- s with the bytes p from a on
-abbrev pub over : List ℕ → ℕ → List ℕ → List ℕ
-over s a p = take a s ++ (p ++ drop (a + length p) s)
+abbrev pub withBytes : List ℕ → ℕ → List ℕ → List ℕ
+withBytes s a p = take a s ++ (p ++ drop (a + length p) s)
 
 -- COHERENCE
 
@@ -43,31 +46,31 @@ lengthsFit l s b m (suc c) = leb (getD l (m % s) 0) b && lengthsFit l s b (suc m
 -- "The lent store: exactly S times the bytes per slot long, and every retained sample's length fits a slot"
 abbrev pub storeRows : WriterSendBuffer → ℕ → List ℕ → List Bool
 storeRows f room lens =
-    isCoherent f
+    flowCoherent f
     ∷ eqb (length lens) (f .limits .slots)
     ∷ eqb room (f .limits .slots * f .limits .«slot_bytes»)
     ∷ lengthsFit lens (length lens) (f .limits .«slot_bytes») (rankOf (f .first) - 1) (rankOf (f .last) + 1 - rankOf (f .first))
     ∷ []
 
 -- `room` is the length of the store
-abbrev pub isCoherentStore : WriterSendBuffer → ℕ → List ℕ → Bool
-isCoherentStore f room lens = allOf (storeRows f room lens)
+abbrev pub storeCoherent : WriterSendBuffer → ℕ → List ℕ → Bool
+storeCoherent f room lens = allOf (storeRows f room lens)
 
 -- ADMISSION
 
 -- what refuses a write of `len` bytes
 abbrev pub writeRows : WriterSendBuffer → ℕ → List ℕ → ℕ → Bool → Rows
-writeRows f room lens len opted = admitRows (isCoherentStore f room lens) len (view f) opted
+writeRows f room lens len opted = admitRows (storeCoherent f room lens) len (flowView f) opted
 
 abbrev pub admitOf : WriterSendBuffer → List ℕ → List ℕ → List ℕ → Bool → Left3 Numbered WriterSendBuffer (List ℕ) (List ℕ)
 admitOf f s lens p opted =
     unless (writeRows f (length s) lens (length p) opted)
-    (λ no. record { result = noNumber no; first = f; second = s; third = lens })
+    (λ no. record { result = numberedNo no; first = f; second = s; third = lens })
     (record {
       result = record { answer = done; number = numberAt (rankOf (f .last) + 1) };
-      first = form (admitted (view f) opted);
-      second = over s (startOf (view f) (rankOf (f .last) + 1)) p;
-      third = set lens (slotOf (view f) (rankOf (f .last) + 1)) (length p);
+      first = flowForm (admitted (flowView f) opted);
+      second = withBytes s (slotStart (flowView f) (rankOf (f .last) + 1)) p;
+      third = set lens (slotOf (flowView f) (rankOf (f .last) + 1)) (length p);
     })
 
 -- the same, where the record is handed back
@@ -77,29 +80,47 @@ handed o = record { result = record { numbered = o .result; flow = o .first }; f
 -- FETCHING: "takes any number; a retained one shows exactly its bytes"
 
 abbrev pub fetchRows : WriterSendBuffer → ℕ → List ℕ → SequenceNumber → Rows
-fetchRows f room lens n = fetched (isCoherentStore f room lens) (retained (rankOf n) (view f))
+fetchRows f room lens n = fetched (storeCoherent f room lens) (retained (rankOf n) (flowView f))
 
 -- where it lies
 abbrev pub locateOf : WriterSendBuffer → ℕ → List ℕ → SequenceNumber → Located
 locateOf f room lens n =
     unless (fetchRows f room lens n)
     (λ no. record { answer = no; start = 0; length = 0 })
-    (record { answer = done; start = startOf (view f) (rankOf n); length = getD lens (slotOf (view f) (rankOf n)) 0 })
+    (record { answer = done; start = slotStart (flowView f) (rankOf n); length = getD lens (slotOf (flowView f) (rankOf n)) 0 })
 
 -- the same with no look at the store, for one that was found coherent: there it is the same (`located-coherent`, proofs/Located.antt). It says something for any
 -- record and any lengths: where the limits or `count` lengths give the sample no slot, nothing is there
 abbrev pub hasPlace : Flow → ℕ → ℕ → Bool
-hasPlace f count n = retained n f && (eqb count (f .limits .slots) && (leb 1 (f .limits .slots) && (leb (f .limits .slots) 256 && leb (f .limits .«slot_bytes») 8192)))
+hasPlace f count n = retained n f && (eqb count (f .limits .slots) && (leb 1 (f .limits .slots) && (leb (f .limits .slots) mostSlots && leb (f .limits .«slot_bytes») mostSlotBytes)))
 
 abbrev pub locatedOf : WriterSendBuffer → List ℕ → SequenceNumber → Located
 locatedOf f lens n =
-    unless (fetched true (hasPlace (view f) (length lens) (rankOf n)))
+    unless (fetched true (hasPlace (flowView f) (length lens) (rankOf n)))
     (λ no. record { answer = no; start = 0; length = 0 })
-    (record { answer = done; start = startOf (view f) (rankOf n); length = getD lens (slotOf (view f) (rankOf n)) 0 })
+    (record { answer = done; start = slotStart (flowView f) (rankOf n); length = getD lens (slotOf (flowView f) (rankOf n)) 0 })
 
--- the part of the store: an empty one, where it is not retained
-abbrev pub fetchOf : WriterSendBuffer → List ℕ → List ℕ → SequenceNumber → List ℕ
-fetchOf f s lens n = unless (fetchRows f (length s) lens n) (λ _. []) (bytesOf (view f) s lens (rankOf n))
+-- what lies there in a store, as far as it goes
+abbrev pub partOf : Located → List ℕ → List ℕ
+partOf at s = take (at .length) (drop (at .start) s)
+
+-- what a fetch's result shows: the answer, and the part of the store
+pub record Shown : Type 0 where
+  pub answer : Answer
+  pub bytes : List ℕ
+
+abbrev pub fetchedView : Fetched → Shown
+fetchedView r = record { answer = r .answer; bytes = now (r .bytes) }
+
+-- a sample's bytes, with 0; and none, with 1 or 14
+abbrev pub sampleShown : List ℕ → Shown
+sampleShown bytes = record { answer = done; bytes = bytes }
+
+abbrev pub noneShown : Answer → Shown
+noneShown a = record { answer = a; bytes = [] }
+
+abbrev pub fetchOf : WriterSendBuffer → List ℕ → List ℕ → SequenceNumber → Shown
+fetchOf f s lens n = unless (fetchRows f (length s) lens n) noneShown (sampleShown (bytesOf (flowView f) s lens (rankOf n)))
 
 -- WHAT THE PRIVATE FUNCTIONS PROMISE AND ASK
 
@@ -109,9 +130,9 @@ allAtMost m [] = true
 allAtMost m (x ∷ xs) = leb x m && allAtMost m xs
 
 -- so many samples whose slots are looked at: no more than there are slots
-pub record Run (lens : List ℕ) (count : ℕ) : Type 0 where
+pub record SlotRun (lens : List ℕ) (count : ℕ) : Type 0 where
   pub some : 0 < length lens
-  pub few : length lens ≤ 256
+  pub few : length lens ≤ mostSlots
   pub held : count ≤ length lens
 
 -- a slot of the store, and bytes that fit it

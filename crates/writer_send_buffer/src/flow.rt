@@ -4,12 +4,12 @@ ghost use mathlib.Core.Bool.{cond};
 ghost use Prim.Native.Nat.{_-_, _<_, _^_};
 ghost use Rattle.numbers.specs.Number.{rankOf};
 ghost use Rattle.numbers.specs.Refusals.{answerOf, isDone, done};
-ghost use Rattle.writer_send_buffer.specs.Flow.{room, trims, full, trimmed, admitRows, admitted};
-ghost use Rattle.writer_send_buffer.specs.Buffer.{view, form, isCoherent, limited, ranged, newOf, questioned, noNumber, roomOf, firstOf, lastOf};
+ghost use Rattle.writer_send_buffer.specs.Flow.{hasRoom, trims, full, trimmed, admitRows, admitted};
+ghost use Rattle.writer_send_buffer.specs.Buffer.{flowView, flowForm, flowCoherent, limited, ranged, newFlowOf};
+ghost use Rattle.writer_send_buffer.specs.Buffer.{questioned, numberedNo, hasRoomOf, firstOf, lastOf};
 use crate::limits::Kind;
 use crate::limits::Limits;
 use numbers::Answer;
-use numbers::Rows;
 use numbers::SequenceNumber;
 use numbers::arith::above;
 use numbers::arith::larger;
@@ -59,9 +59,7 @@ pub struct Ranks {
 fn limit_answer(limit: bool) -> Answer
     ensures { λ r. ⌜ r ≡ answerOf (limited limit) ⌝ }
 {
-    let mut rows = Rows::none();
-    rows.limit = limit;
-    Answer::of(rows)
+    Answer::done().unless(limit, Answer::LIMIT)
 }
 
 impl WriterSendBuffer {
@@ -75,7 +73,7 @@ impl WriterSendBuffer {
         kind: Kind,
         limits: Limits,
     ) -> WriterSendBuffer
-        ensures { λ r. ⌜ r ≡ form (record { last = last; first = first; sent = sent; acked = acked; present = present; kind = kind; limits = limits }) ⌝ }
+        ensures { λ r. ⌜ r ≡ flowForm (record { last = last; first = first; sent = sent; acked = acked; present = present; kind = kind; limits = limits }) ⌝ }
     {
         let l = SequenceNumber::from_rank(last);
         let f = SequenceNumber::from_rank(first);
@@ -108,7 +106,7 @@ impl WriterSendBuffer {
     }
 
     pub fn is_coherent(self) -> bool
-        ensures { λ r. ⌜ r ≡ isCoherent self ⌝ }
+        ensures { λ r. ⌜ r ≡ flowCoherent self ⌝ }
     {
         let n = self.ranks();
         let last_below = self.last.is_negative();
@@ -129,13 +127,12 @@ impl WriterSendBuffer {
 
     // The answer of a call that is refused where the record isn't coherent, or a number is out of its range.
     pub(crate) fn asked(self, range: bool) -> Answer
-        ensures { λ r. ⌜ r ≡ answerOf (ranged (isCoherent self) range) ⌝ }
+        ensures { λ r. ⌜ r ≡ answerOf (ranged (flowCoherent self) range) ⌝ }
     {
         let coherent = self.is_coherent();
-        let mut rows = Rows::none();
-        rows.incoherent = !coherent;
-        rows.range = range;
-        Answer::of(rows)
+        Answer::done()
+            .unless(range, Answer::RANGE)
+            .unless(!coherent, Answer::INCOHERENT)
     }
 
     // What the record is after a call: the next, or where the call is refused the same.
@@ -150,7 +147,7 @@ impl WriterSendBuffer {
 
     // A new writer's record.
     pub fn new(kind: Kind, limits: Limits) -> Moved
-        ensures { λ r. ⌜ r ≡ newOf kind limits ⌝ }
+        ensures { λ r. ⌜ r ≡ newFlowOf kind limits ⌝ }
     {
         let counted = limits.with_0_as_1();
         let allowed = counted.are_allowed();
@@ -176,8 +173,8 @@ impl WriterSendBuffer {
     }
 
     // Whether one more sample finds room.
-    pub fn room_for(self, opted: bool) -> bool
-        ensures { λ r. ⌜ r ≡ room (view self) opted ⌝ }
+    fn room_for(self, opted: bool) -> bool
+        ensures { λ r. ⌜ r ≡ hasRoom (flowView self) opted ⌝ }
     {
         let n = self.ranks();
         let unsent = above(n.last, n.sent);
@@ -192,8 +189,8 @@ impl WriterSendBuffer {
     }
 
     // Whether a write trims what is held to `retain`.
-    pub fn trims_for(self, opted: bool) -> bool
-        ensures { λ r. ⌜ r ≡ trims (view self) opted ⌝ }
+    fn trims_for(self, opted: bool) -> bool
+        ensures { λ r. ⌜ r ≡ trims (flowView self) opted ⌝ }
     {
         let kind = self.kind;
         !kind.builtin
@@ -201,8 +198,8 @@ impl WriterSendBuffer {
     }
 
     // Whether a write finds all slots held, and trims none.
-    pub fn full_for(self, opted: bool) -> bool
-        ensures { λ r. ⌜ r ≡ full (view self) opted ⌝ }
+    fn full_for(self, opted: bool) -> bool
+        ensures { λ r. ⌜ r ≡ full (flowView self) opted ⌝ }
     {
         let n = self.ranks();
         let held = above(n.last + 1, n.first);
@@ -213,26 +210,26 @@ impl WriterSendBuffer {
     }
 
     // What a write of `len` bytes is answered; `coherent` says whether the record and the lent store are.
-    pub fn admission(self, coherent: bool, len: usize, opted: bool) -> Answer
-        ensures { λ r. ⌜ r ≡ answerOf (admitRows coherent len (view self) opted) ⌝ }
+    pub(crate) fn admission(self, coherent: bool, len: usize, opted: bool) -> Answer
+        ensures { λ r. ⌜ r ≡ answerOf (admitRows coherent len (flowView self) opted) ⌝ }
     {
         let last = self.last.rank();
         let limits = self.limits;
         let bytes = limits.slot_bytes as usize;
         let room = self.room_for(opted);
         let full = self.full_for(opted);
-        let mut rows = Rows::none();
-        rows.incoherent = !coherent;
-        rows.payload = bytes < len;
-        rows.used_up = last == SequenceNumber::LAST;
-        rows.would_block = !room;
-        rows.store_full = full;
-        Answer::of(rows)
+        let used_up = last == SequenceNumber::LAST;
+        Answer::done()
+            .unless(full, Answer::STORE_FULL)
+            .unless(!room, Answer::WOULD_BLOCK)
+            .unless(used_up, Answer::USED_UP)
+            .unless(bytes < len, Answer::PAYLOAD)
+            .unless(!coherent, Answer::INCOHERENT)
     }
 
     // The oldest number retained once one more is in.
     fn first_after(self, opted: bool) -> u64
-        ensures { λ r. ⌜ r ≡ trimmed (view self) opted ⌝ }
+        ensures { λ r. ⌜ r ≡ trimmed (flowView self) opted ⌝ }
     {
         let n = self.ranks();
         let limits = self.limits;
@@ -245,8 +242,8 @@ impl WriterSendBuffer {
     }
 
     // The record once one more is in.
-    pub fn after(self, opted: bool) -> WriterSendBuffer
-        ensures { λ r. ⌜ r ≡ form (admitted (view self) opted) ⌝ }
+    pub(crate) fn after(self, opted: bool) -> WriterSendBuffer
+        ensures { λ r. ⌜ r ≡ flowForm (admitted (flowView self) opted) ⌝ }
     {
         let n = self.ranks();
         let first = self.first_after(opted);
@@ -265,7 +262,7 @@ impl WriterSendBuffer {
 
     // Room for one more sample, as a question of its own.
     pub fn has_room(self, opted: bool) -> Told
-        ensures { λ r. ⌜ r ≡ roomOf self opted ⌝ }
+        ensures { λ r. ⌜ r ≡ hasRoomOf self opted ⌝ }
     {
         let answer = self.asked(false);
         let room = self.room_for(opted);
@@ -291,7 +288,7 @@ impl WriterSendBuffer {
 
     // A question that a number answers.
     fn told_number(self, number: SequenceNumber) -> Numbered
-        ensures { λ r. ⌜ r ≡ questioned self noNumber (record { answer = done; number = number }) ⌝ }
+        ensures { λ r. ⌜ r ≡ questioned self numberedNo (record { answer = done; number = number }) ⌝ }
     {
         let answer = self.asked(false);
         if answer.number != 0 {

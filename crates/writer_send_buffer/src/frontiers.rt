@@ -1,7 +1,7 @@
 // The frontiers and eviction, by value.
 ghost use mathlib.Core.Path.{_≡_};
 ghost use Rattle.writer_send_buffer.specs.Flow.{wakes, stored};
-ghost use Rattle.writer_send_buffer.specs.Buffer.{view, form, ackedOf, sentOf, evictOf, throughOf, woken, moved};
+ghost use Rattle.writer_send_buffer.specs.Buffer.{flowView, flowForm, ackedOf, sentOf, evictOf, throughOf, woken, moved};
 use crate::flow::Moved;
 use crate::flow::Told;
 use crate::flow::WriterSendBuffer;
@@ -19,7 +19,7 @@ pub struct Woken {
 impl WriterSendBuffer {
     // Whether a frontier wakes who waits; 0 stands for an absent one.
     fn frontier_wakes(self, a: u64) -> bool
-        ensures { λ r. ⌜ r ≡ wakes a (view self) ⌝ }
+        ensures { λ r. ⌜ r ≡ wakes a (flowView self) ⌝ }
     {
         let present = self.present;
         let acked = self.acked.rank();
@@ -31,7 +31,7 @@ impl WriterSendBuffer {
 
     // The record with the frontier stored.
     fn frontier_stored(self, a: u64) -> WriterSendBuffer
-        ensures { λ r. ⌜ r ≡ form (stored a (view self)) ⌝ }
+        ensures { λ r. ⌜ r ≡ flowForm (stored a (flowView self)) ⌝ }
     {
         let n = self.ranks();
         let kind = self.kind;

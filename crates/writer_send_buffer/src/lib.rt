@@ -14,4 +14,5 @@ pub use frontiers::Woken;
 pub use limits::Kind;
 pub use limits::Limits;
 pub use samples::Admitted;
+pub use samples::Fetched;
 pub use samples::Located;

@@ -1,7 +1,7 @@
 // What kind of writer it is, and its limits.
 ghost use mathlib.Core.Path.{_≡_};
 ghost use Prim.Native.Nat.{_-_};
-ghost use Rattle.writer_send_buffer.specs.Flow.{allowed, counted};
+ghost use Rattle.writer_send_buffer.specs.Flow.{allowed, limitsCounted};
 use numbers::arith::larger;
 
 #[repr(C)]
@@ -51,7 +51,7 @@ impl Limits {
 
     // 0 counts as 1, for the window, the backlog and retain.
     pub fn with_0_as_1(self) -> Limits
-        ensures { λ r. ⌜ r ≡ counted self ⌝ }
+        ensures { λ r. ⌜ r ≡ limitsCounted self ⌝ }
     {
         Limits {
             window: larger(1, self.window),

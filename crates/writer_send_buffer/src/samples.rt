@@ -4,16 +4,16 @@ ghost use Prim.Native.Nat.{_*_};
 ghost use lib.ListN.{length, set};
 ghost use Rattle.numbers.specs.Refusals.{answerOf};
 ghost use Rattle.numbers.specs.Promise.{Gives2};
-ghost use Rattle.writer_send_buffer.specs.Buffer.{view};
-ghost use Rattle.writer_send_buffer.specs.Samples.{Run, Slot, over, lengthsFit, isCoherentStore, writeRows, admitOf, handed, hasPlace, locatedOf, locateOf, fetchOf};
+ghost use Rattle.writer_send_buffer.specs.Buffer.{flowView};
+ghost use Rattle.writer_send_buffer.specs.Samples.{SlotRun, Slot, withBytes, lengthsFit, storeCoherent, writeRows, admitOf, handed, hasPlace, locatedOf, locateOf, partOf, fetchedView, fetchOf};
 use crate::at_most::all_at_most;
 use crate::flow::Numbered;
 use crate::flow::WriterSendBuffer;
 use crate::limits::Limits;
 use numbers::Answer;
-use numbers::Rows;
 use numbers::SequenceNumber;
 use numbers::arith::above;
+use numbers::arith::smaller;
 
 // What a write is answered, with the record as it then is.
 #[repr(C)]
@@ -28,6 +28,12 @@ pub struct Located {
     pub answer: Answer,
     pub start: usize,
     pub length: usize,
+}
+
+// What a fetch is answered, with the bytes of the sample as a part of the lent store; none where the answer isn't 0.
+pub struct Fetched<'a> {
+    pub answer: Answer,
+    pub bytes: &'a [u8],
 }
 
 // dst becomes src.
@@ -45,7 +51,7 @@ fn copy_in(dst: &mut [u8], src: &[u8])
 // Whether the lengths of `count` samples, the first of them in the slot of `from`, are at most `most`. They stand in all of the ring, in one part of it, or
 // in two: up to its end, and from its start.
 fn lengths_fit(lens: &[u64], from: u64, count: u64, most: u64) -> bool
-    requires { ⌜ Run (now lens) count ⌝ }
+    requires { ⌜ SlotRun (now lens) count ⌝ }
     ensures { λ r. ⌜ r ≡ lengthsFit (now (lens .entry)) (length (now (lens .entry))) most from count ⌝ }
 {
     let slots = lens.len();
@@ -67,7 +73,7 @@ fn lengths_fit(lens: &[u64], from: u64, count: u64, most: u64) -> bool
 // The payload is copied into a slot: the only copy.
 fn put_in(store: &mut [u8], lens: &mut [u64], payload: &[u8], slot: usize, bytes: usize)
     requires { ⌜ Slot (now store) (now lens) (now payload) slot bytes ⌝ }
-    ensures { λ r. ⌜ (now (store .exit) ≡ over (now (store .entry)) (slot * bytes) (now (payload .entry))) × (now (lens .exit) ≡ set (now (lens .entry)) slot (length (now (payload .entry)))) ⌝ }
+    ensures { λ r. ⌜ (now (store .exit) ≡ withBytes (now (store .entry)) (slot * bytes) (now (payload .entry))) × (now (lens .exit) ≡ set (now (lens .entry)) slot (length (now (payload .entry)))) ⌝ }
 {
     let a = slot * bytes;
     let e = a + payload.len();
@@ -78,7 +84,7 @@ fn put_in(store: &mut [u8], lens: &mut [u64], payload: &[u8], slot: usize, bytes
 impl WriterSendBuffer {
     // Whether the record, a store of `room` bytes and the lengths are coherent.
     pub fn is_coherent_store(self, room: usize, lens: &[u64]) -> bool
-        ensures { λ r. ⌜ r ≡ isCoherentStore self room (now (lens .entry)) ⌝ }
+        ensures { λ r. ⌜ r ≡ storeCoherent self room (now (lens .entry)) ⌝ }
     {
         let limits = self.limits;
         let slots = limits.slots as usize;
@@ -137,7 +143,7 @@ impl WriterSendBuffer {
 
     // Whether number n is retained, and the limits and `count` lengths give it a slot.
     fn has_place(self, count: usize, n: u64) -> bool
-        ensures { λ r. ⌜ r ≡ hasPlace (view self) count n ⌝ }
+        ensures { λ r. ⌜ r ≡ hasPlace (flowView self) count n ⌝ }
     {
         let last = self.last.rank();
         let first = self.first.rank();
@@ -156,9 +162,7 @@ impl WriterSendBuffer {
     {
         let n = number.rank();
         let there = self.has_place(lens.len(), n);
-        let mut rows = Rows::none();
-        rows.nothing = !there;
-        let answer = Answer::of(rows);
+        let answer = Answer::found(true, !there);
         if !there {
             return Located {
                 answer,
@@ -181,9 +185,7 @@ impl WriterSendBuffer {
         ensures { λ r. ⌜ r ≡ locateOf self room (now (lens .entry)) number ⌝ }
     {
         if !self.is_coherent_store(room, lens) {
-            let mut rows = Rows::none();
-            rows.incoherent = true;
-            let answer = Answer::of(rows);
+            let answer = Answer::coherence(false);
             return Located {
                 answer,
                 start: 0,
@@ -193,13 +195,26 @@ impl WriterSendBuffer {
         self.located(lens, number)
     }
 
-    // The bytes of a sample, as a part of the lent store; none where it is not retained.
-    pub fn get_by_sn<'a>(self, store: &'a [u8], lens: &[u64], number: SequenceNumber) -> &'a [u8]
-        ensures { λ r. ⌜ now r ≡ fetchOf self (now (store .entry)) (now (lens .entry)) number ⌝ }
+    // The bytes of a sample, as a part of the lent store, with the answer: so an empty sample is told from one that is gone. What decides stands in `locate` and
+    // `part`, since a function over a struct that holds a reference is proved by a walk of its MIR; who is to need no walk calls those two.
+    pub fn get_by_sn<'a>(self, store: &'a [u8], lens: &[u64], number: SequenceNumber) -> Fetched<'a>
+        ensures { λ r. ⌜ fetchedView r ≡ fetchOf self (now (store .entry)) (now (lens .entry)) number ⌝ }
     {
         let at = self.locate(store.len(), lens, number);
-        let a = at.start;
-        let e = a + at.length;
+        Fetched {
+            answer: at.answer,
+            bytes: at.part(store),
+        }
+    }
+}
+
+impl Located {
+    // The part of a store that lies there: as much of it as the store has.
+    pub fn part<'a>(self, store: &'a [u8]) -> &'a [u8]
+        ensures { λ r. ⌜ now r ≡ partOf self (now (store .entry)) ⌝ }
+    {
+        let a = smaller(self.start, store.len());
+        let e = a + smaller(self.length, store.len() - a);
         &store[a..e]
     }
 }

@@ -6,11 +6,10 @@ use mathlib.Core.Bool.{Bool, true, false, not, cond, _&&_}
 use mathlib.Core.List.{List, [], _∷_}
 use borrow.Author.Tests.{eqb-true, eqb-false}
 use Rattle.numbers.specs.Number.{rankOf}
-use Rattle.numbers.specs.Refusals.{row, rowsOf, answerOf, isDone}
+use Rattle.numbers.specs.Refusals.{row, answerOf, isDone, Rows}
 use Rattle.numbers.specs.Answers.{earlier}
 use Rattle.numbers.specs.Promise.{Left2, Gives2}
 use Rattle.numbers.specs.declared.answer.Answer.{Answer}
-use Rattle.numbers.specs.declared.answer.Rows.{Rows}
 use Rattle.numbers.specs.declared.sequence_number.SequenceNumber.{SequenceNumber}
 use Rattle.numbers.proofs.Refused.{is-refused, gives2}
 use Rattle.numbers.proofs.Answered.{unless-answer, right-done, answer-refused, answer-done}
@@ -19,7 +18,7 @@ use Rattle.number_sets.specs.Calls.{fragmentSet}
 use Rattle.rtps_reader_proxy.specs.declared.proxy.ReaderProxy.{ReaderProxy}
 use Rattle.rtps_reader_proxy.specs.declared.proxy.Changed.{Changed}
 use Rattle.rtps_reader_proxy.specs.Record.{roomFor}
-use Rattle.rtps_reader_proxy.specs.Fragments.{fragsOk, byFrags, requestRows, fragsRequestedOf}
+use Rattle.rtps_reader_proxy.specs.Fragments.{fragsCoherent, byFrags, requestRows, fragsRequestedOf}
 use Rattle.reader_list.specs.declared.heads.ReaderHead.{ReaderHead}
 use Rattle.reader_list.specs.declared.calls.Found.{Found}
 use Rattle.reader_list.specs.Slots.{foundOf}
@@ -32,7 +31,7 @@ module _ (n : SequenceNumber) (set : FragmentNumberSet) (h : ReaderProxy) (sampl
   asked = fragsRequestedOf n set h samples words
 
   abbrev askRows : Rows
-  askRows = rowsOf (row 1 (not (roomFor 1 16 (h .«frag_count») samples && fragsOk h samples words)) ∷ requestRows (rankOf n) (fragmentSet set) (h .«frag_count») (byFrags h samples words))
+  askRows = row 1 refl (not (roomFor 1 16 (h .«frag_count») samples && fragsCoherent h samples words)) ∷ requestRows (rankOf n) (fragmentSet set) (h .«frag_count») (byFrags h samples words)
 
   abbrev as-it-was : Answer → Left2 Changed (List ℕ) (List ℕ)
   as-it-was a = record { result = record { answer = a; proxy = h }; first = samples; second = words }
@@ -89,7 +88,7 @@ module _ (hs : List ReaderHead) (i : ℕ) (n : SequenceNumber) (set : FragmentNu
       where
         go : (t : Bool) → isDone (foundOf hs i .answer) ≡ t → outcome t .result .answer .number ≡ 0 → (foundOf hs i .answer .number ≡ 0) × (outcome t ≡ own)
         go true e y = (eqb-true (foundOf hs i .answer .number) 0 e, refl)
-        go false e y = absurd (eqb-false (foundOf hs i .answer .number) 0 e (right-done (own .result .answer) (foundOf hs i .answer) (foundRows hs i) (found-answer hs i) y))
+        go false e y = absurd (eqb-false (foundOf hs i .answer .number) 0 e (right-done (own .result .answer) (foundOf hs i .answer) y))
 
     -- where it is done, the reader is there, and its record is as its own call leaves it
     pub nack-frag-found : foundOf hs i .answer .number ≡ 0

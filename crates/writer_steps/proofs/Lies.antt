@@ -11,8 +11,9 @@ use lib.Seq.{length-take-le, take-at, take-all, drop-append-le}
 use borrow.Author.Tests.{eq-eqb, ne-eqb}
 use Rattle.sets.specs.Sets.{has, empty, without}
 use Rattle.sets.proofs.Loops.{upto, upto-more}
-use Rattle.numbers.specs.Number.{topNumber, rankOf, numberAt}
-use Rattle.numbers.specs.Refusals.{row, rowsOf, answerOf, unless, done, isDone}
+use Rattle.numbers.specs.Capacities.{topNumber}
+use Rattle.numbers.specs.Number.{rankOf, numberAt}
+use Rattle.numbers.specs.Refusals.{answerAt, row, answerOf, unless, done, isDone}
 use Rattle.numbers.specs.Promise.{Left2, Left4, Gives2, Gives4}
 use Rattle.numbers.specs.declared.answer.Answer.{Answer}
 use Rattle.numbers.proofs.Ranks.{rank-back}
@@ -22,37 +23,37 @@ use Rattle.rising.proofs.Lists.{filled-length, filled-at, filled-end}
 use Rattle.rtps_reader_proxy.specs.declared.proxy.ReaderProxy.{ReaderProxy}
 use Rattle.rtps_reader_proxy.specs.declared.unsent.Taken.{Taken}
 use Rattle.rtps_reader_proxy.specs.Reader.{taken, untaken}
-use Rattle.rtps_reader_proxy.specs.Record.{unsentOk}
+use Rattle.rtps_reader_proxy.specs.Record.{unsentCoherent}
 use Rattle.rtps_reader_proxy.specs.Unsent.{byUnsent, countUnsent, takenOf}
 use Rattle.rtps_reader_proxy.proofs.UnsentCalls.{UnsentIs, unsent-is, taken-is}
 use Rattle.writer_send_buffer.specs.declared.flow.WriterSendBuffer.{WriterSendBuffer}
 use Rattle.writer_send_buffer.specs.declared.samples.Located.{Located}
 use Rattle.writer_send_buffer.specs.Flow.{retained}
-use Rattle.writer_send_buffer.specs.Buffer.{view, isCoherent, fetched}
-use Rattle.writer_send_buffer.specs.Samples.{isCoherentStore, storeRows, startOf as flowStart, slotOf, locateOf}
+use Rattle.writer_send_buffer.specs.Buffer.{flowView, flowCoherent, fetched}
+use Rattle.writer_send_buffer.specs.Samples.{storeCoherent, storeRows, slotStart, slotOf, locateOf}
 use Rattle.writer_send_buffer.proofs.Sound.{holds}
 use Rattle.writer_send_buffer.proofs.Located.{located-coherent}
 use Rattle.writer_steps.specs.declared.many.SentMany.{SentMany}
-use Rattle.writer_steps.specs.Many.{Gone, Sending, sending, noStart, startsAt, longAs, manyRows, mostOf, manyLeft, sendManyOf, goneAs, startOf, startFor, lengthFor, Placeable, emptied}
+use Rattle.writer_steps.specs.Many.{Gone, Sending, sending, noStart, startsAt, longAs, manyRows, mostOf, manyLeft, sendManyOf, goneAs, locatedStart, startFor, lengthFor, Placeable, emptied}
 use Rattle.writer_steps.proofs.Repeats.{sending-is}
 
 -- ---- WHERE ONE LIES: what `locate` says of a coherent store, with no look at it
-module _ (f : WriterSendBuffer) (room : ℕ) (lens : List ℕ) (ok : isCoherentStore f room lens ≡ true) where
+module _ (f : WriterSendBuffer) (room : ℕ) (lens : List ℕ) (ok : storeCoherent f room lens ≡ true) where
   abbrev at : Bool → Bool → ℕ → Located
-  at t r m = unless (fetched t r) (λ no. record { answer = no; start = 0; length = 0 }) (record { answer = done; start = flowStart (view f) m; length = getD lens (slotOf (view f) m) 0 })
+  at t r m = unless (fetched t r) (λ no. record { answer = no; start = 0; length = 0 }) (record { answer = done; start = slotStart (flowView f) m; length = getD lens (slotOf (flowView f) m) 0 })
 
   length-is : (n : ℕ) → lengthFor f lens n ≡ longAs f room lens (goneAs f n)
   length-is n = ap (λ (l : Located). l .length) (located-coherent f lens (numberAt n) room ok)
 
   start-is : (n : ℕ) → n ≤ topNumber → startFor f lens n ≡ startsAt f room lens (goneAs f n)
-  start-is n top = ap startOf (located-coherent f lens (numberAt n) room ok ∙ located) ∙ by-cases (retained n (view f)) ∙ ap (λ (l : Located). cond (retained n (view f)) (l .start) noStart) (sym located)
+  start-is n top = ap locatedStart (located-coherent f lens (numberAt n) room ok ∙ located) ∙ by-cases (retained n (flowView f)) ∙ ap (λ (l : Located). cond (retained n (flowView f)) (l .start) noStart) (sym located)
     where
-      located : locateOf f room lens (numberAt n) ≡ at true (retained n (view f)) n
+      located : locateOf f room lens (numberAt n) ≡ at true (retained n (flowView f)) n
       located =
-          ap (λ (t : Bool). at t (retained (rankOf (numberAt n)) (view f)) (rankOf (numberAt n))) ok
-          ∙ ap (λ (m : ℕ). at true (retained m (view f)) m) (rank-back n (omega arith))
+          ap (λ (t : Bool). at t (retained (rankOf (numberAt n)) (flowView f)) (rankOf (numberAt n))) ok
+          ∙ ap (λ (m : ℕ). at true (retained m (flowView f)) m) (rank-back n (omega arith))
 
-      by-cases : (t : Bool) → startOf (at true t n) ≡ cond t (at true t n .start) noStart
+      by-cases : (t : Bool) → locatedStart (at true t n) ≡ cond t (at true t n .start) noStart
       by-cases true = refl
       by-cases false = refl
 
@@ -105,18 +106,18 @@ module _ (f : WriterSendBuffer) (room : ℕ) (lens : List ℕ) (h : ReaderProxy)
   refusedBy a = record { result = record { answer = a; count = 0; proxy = h }; first = u; second = ns; third = ss; fourth = ls }
 
   abbrev manyBy : Bool → Bool → Bool → Left4 SentMany (List ℕ) (List ℕ) (List ℕ) (List ℕ)
-  manyBy t v n = unless (rowsOf (row 1 (not (t && v)) ∷ row 14 n ∷ [])) refusedBy (manyLeft f room lens (sending k f h u) ns ss ls)
+  manyBy t v n = unless (row 1 refl (not (t && v)) ∷ row 14 refl n ∷ []) refusedBy (manyLeft f room lens (sending k f h u) ns ss ls)
 
   -- the store isn't coherent
-  pub many-unsound : isCoherentStore f room lens ≡ false → Gives4 (record { answer = record { number = 1 }; count = 0; proxy = h }) u ns ss ls (sendManyOf f room lens h u ns ss ls)
-  many-unsound e =
-      subst (Gives4 (record { answer = record { number = 1 }; count = 0; proxy = h }) u ns ss ls) (sym (ap (λ (t : Bool). manyBy t (unsentOk h u) (empty held)) e))
-      (record { result = refl; first = refl; second = refl; third = refl; fourth = refl })
+  pub many-unsound : (a : Answer) → a ≡ answerAt 1 → storeCoherent f room lens ≡ false → Gives4 (record { answer = a; count = 0; proxy = h }) u ns ss ls (sendManyOf f room lens h u ns ss ls)
+  many-unsound a q e =
+      subst (Gives4 (record { answer = a; count = 0; proxy = h }) u ns ss ls) (sym (ap (λ (t : Bool). manyBy t (unsentCoherent h u) (empty held)) e))
+      (record { result = ap (λ (x : Answer). record { answer = x; count = 0; proxy = h }) q; first = refl; second = refl; third = refl; fourth = refl })
 
-  module _ (ok : isCoherentStore f room lens ≡ true) (t : Taken) (u′ o : List ℕ) (g : Gives2 t u′ o (takenOf h u (take k ns))) (a : Answer) (ea : a ≡ emptied (t .answer) (eqb (h .«unsent_count») 0)) where
+  module _ (ok : storeCoherent f room lens ≡ true) (t : Taken) (u′ o : List ℕ) (g : Gives2 t u′ o (takenOf h u (take k ns))) (a : Answer) (ea : a ≡ emptied (t .answer) (eqb (h .«unsent_count») 0)) where
     abbrev takenBy : Bool → Left2 Taken (List ℕ) (List ℕ)
     takenBy v =
-        unless (rowsOf (row 1 (not v) ∷ []))
+        unless (row 1 refl (not v) ∷ [])
         (λ x. record { result = record { answer = x; count = 0; proxy = h }; first = u; second = take k ns })
         (record {
           result = record { answer = done; count = length (taken (length (take k ns)) held); proxy = countUnsent (length (untaken (length (take k ns)) held)) h };
@@ -128,7 +129,7 @@ module _ (f : WriterSendBuffer) (room : ℕ) (lens : List ℕ) (h : ReaderProxy)
     long = length-take-le k ns (omega arith)
 
     -- the unsent room isn't coherent
-    module _ (bad : unsentOk h u ≡ false) where
+    module _ (bad : unsentCoherent h u ≡ false) where
       is-bad : Gives2 t u′ o (takenBy false)
       is-bad = subst (λ (v : Bool). Gives2 t u′ o (takenBy v)) bad g
 
@@ -142,7 +143,7 @@ module _ (f : WriterSendBuffer) (room : ℕ) (lens : List ℕ) (h : ReaderProxy)
             fourth = refl;
           }
 
-    module _ (good : unsentOk h u ≡ true) where
+    module _ (good : unsentCoherent h u ≡ true) where
       is-good : Gives2 t u′ o (takenBy true)
       is-good = subst (λ (v : Bool). Gives2 t u′ o (takenBy v)) good g
 
@@ -245,22 +246,22 @@ module _ (f : WriterSendBuffer) (room : ℕ) (lens : List ℕ) (h : ReaderProxy)
               fourth = el ∙ ap (λ (x : List ℕ). filled (map (lengthFor f lens) x) ls) numbers-taken ∙ ap (λ (x : List ℕ). filled x ls) (lengths-are (taken k held) ∙ sym (map-twice (longAs f room lens) (taken k held)));
             })
 
-    as-called : (v n : Bool) → unsentOk h u ≡ v → empty held ≡ n → manyBy true v n ≡ sendManyOf f room lens h u ns ss ls
+    as-called : (v n : Bool) → unsentCoherent h u ≡ v → empty held ≡ n → manyBy true v n ≡ sendManyOf f room lens h u ns ss ls
     as-called v n ev en = (λ j. manyBy (sym ok j) (sym ev j) (sym en j))
 
     pub many-refused : (a .number ≡ 0 → ⊥) → Gives4 (record { answer = a; count = 0; proxy = h }) u′ (o ++ drop k ns) ss ls (sendManyOf f room lens h u ns ss ls)
-    many-refused z = go (unsentOk h u) refl (empty held) refl
+    many-refused z = go (unsentCoherent h u) refl (empty held) refl
       where
-        go : (v : Bool) → unsentOk h u ≡ v → (n : Bool) → empty held ≡ n → Gives4 (record { answer = a; count = 0; proxy = h }) u′ (o ++ drop k ns) ss ls (sendManyOf f room lens h u ns ss ls)
+        go : (v : Bool) → unsentCoherent h u ≡ v → (n : Bool) → empty held ≡ n → Gives4 (record { answer = a; count = 0; proxy = h }) u′ (o ++ drop k ns) ss ls (sendManyOf f room lens h u ns ss ls)
         go false ev n en = subst (Gives4 (record { answer = a; count = 0; proxy = h }) u′ (o ++ drop k ns) ss ls) (as-called false (empty held) ev refl) (bad-left ev)
         go true ev true en = subst (Gives4 (record { answer = a; count = 0; proxy = h }) u′ (o ++ drop k ns) ss ls) (as-called true true ev en) (none-left ev en)
         go true ev false en = absurd (z (ap (λ (x : Answer). x .number) (answer-is ev ∙ ap (emptied done) en)))
 
     module _ (z : a .number ≡ 0) where
-      pub unsent-good : unsentOk h u ≡ true
-      unsent-good = go (unsentOk h u) refl
+      pub unsent-good : unsentCoherent h u ≡ true
+      unsent-good = go (unsentCoherent h u) refl
         where
-          go : (v : Bool) → unsentOk h u ≡ v → v ≡ true
+          go : (v : Bool) → unsentCoherent h u ≡ v → v ≡ true
           go true ev = refl
           go false ev = absurd (lt-irrefl 0 (omega (arith, z, ap (λ (x : SentMany). x .answer .number) (bad-left ev .result))))
 
@@ -277,7 +278,7 @@ module _ (f : WriterSendBuffer) (room : ℕ) (lens : List ℕ) (h : ReaderProxy)
           subst (Gives4 (record { answer = a; count = t .count; proxy = t .proxy }) u′ (o ++ drop k ns) ss′ ls′) (as-called true false unsent-good unsent-some) (all-left unsent-good unsent-some ss′ ls′ es el)
 
   -- as the code has it: q is as many as the rooms have places for
-  module _ (ok : isCoherentStore f room lens ≡ true) (q m : ℕ) (em : m ≡ min (length ss) (length ls)) (eq : q ≡ min (length ns) m) (t : Taken) (u′ o : List ℕ) (g : Gives2 t u′ o (takenOf h u (take q ns)))
+  module _ (ok : storeCoherent f room lens ≡ true) (q m : ℕ) (em : m ≡ min (length ss) (length ls)) (eq : q ≡ min (length ns) m) (t : Taken) (u′ o : List ℕ) (g : Gives2 t u′ o (takenOf h u (take q ns)))
       (a : Answer) (ea : a ≡ emptied (t .answer) (eqb (h .«unsent_count») 0)) where
     same : q ≡ mostOf ns ss ls
     same = eq ∙ ap (min (length ns)) em

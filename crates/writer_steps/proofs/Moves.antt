@@ -5,13 +5,12 @@ use mathlib.Core.Bool.{Bool, true, false, cond}
 use mathlib.Core.List.{List, [], _∷_}
 use borrow.Author.Tests.{eq-eqb, ne-eqb, eqb-true, eqb-false}
 use Rattle.numbers.specs.Number.{rankOf, negative, numberAt}
-use Rattle.numbers.specs.Refusals.{answerOf, done, isDone, unless}
+use Rattle.numbers.specs.Refusals.{answerOf, done, isDone, unless, Rows}
 use Rattle.numbers.specs.Answers.{earlier, inTurn, answered}
 use Rattle.numbers.specs.Promise.{Left1, Left2, Left4}
 use Rattle.numbers.specs.declared.answer.Answer.{Answer}
-use Rattle.numbers.specs.declared.answer.Rows.{Rows}
-use Rattle.numbers.proofs.Refused.{Clear, clear, done-is}
-use Rattle.numbers.proofs.Answered.{unless-answer, saidRows, left-done, right-done, turn-done}
+use Rattle.numbers.proofs.Refused.{Clear, clear}
+use Rattle.numbers.proofs.Answered.{unless-answer, left-done, right-done, turn-done}
 use Rattle.number_sets.specs.declared.sequence_number_set.SequenceNumberSet.{SequenceNumberSet}
 use Rattle.rtps_reader_proxy.specs.declared.proxy.ReaderProxy.{ReaderProxy}
 use Rattle.rtps_reader_proxy.specs.declared.acks.AckNacked.{AckNacked}
@@ -20,14 +19,14 @@ use Rattle.reader_list.specs.declared.heads.ReaderHead.{ReaderHead}
 use Rattle.reader_list.specs.declared.calls.Match.{Match}
 use Rattle.reader_list.specs.declared.calls.Acked.{Acked}
 use Rattle.reader_list.specs.Readers.{frontier, matched, departed, acknowledged}
-use Rattle.reader_list.specs.Slots.{readers, isCoherent, listed, unknown, matchRows, frontOf, foundOf, matchOf, departOf, ackOf}
+use Rattle.reader_list.specs.Slots.{readers, listCoherent, listRows, idUnknown, matchRows, frontOf, foundOf, matchOf, departOf, ackOf}
 use Rattle.reader_list.proofs.Kept.{match-is, depart-is, ack-is}
 use Rattle.writer_send_buffer.specs.declared.flow.WriterSendBuffer.{WriterSendBuffer}
 use Rattle.writer_send_buffer.specs.declared.flow.Told.{Told}
 use Rattle.writer_send_buffer.specs.declared.frontiers.Woken.{Woken}
 use Rattle.writer_send_buffer.proofs.Steps.{at-least-0}
 use Rattle.writer_steps.specs.declared.acks.AckTold.{AckTold}
-use Rattle.writer_steps.specs.Readers.{storedOf, flowRows, withFlow, after, matchStep, departStep, frontierIn}
+use Rattle.writer_steps.specs.Readers.{storedOf, flowRows, besideFlow, after, matchStep, departStep, frontierIn}
 use Rattle.writer_steps.specs.Acks.{ackedBy, agreeRows, thereFor, besideAck, ackedList, ackStored, ackStep}
 use Rattle.writer_steps.proofs.Together.{answered-done, foundRows, found-answer, then-kept, then-done, then-frontier, list-kept, list-is}
 
@@ -40,25 +39,25 @@ module _ (hs : List ReaderHead) (f : WriterSendBuffer) (r : Rows) (d : List Read
   o = unless r (λ no. record { result = no; first = hs }) (record { result = done; first = d })
 
   abbrev w : Woken
-  w = after (withFlow (o .result) f) (storedOf (frontOf (o .first)) f) f
+  w = after (besideFlow (o .result) f) (storedOf (frontOf (o .first)) f) f
 
   o-answer : o .result ≡ answerOf r
   o-answer = unless-answer (λ (x : Left1 Answer (List ReaderHead)). x .result) r (λ no. record { result = no; first = hs }) (record { result = done; first = d }) (λ x. refl) refl
 
   -- a refusal changes nothing
   pub change-kept : (w .told .answer .number ≡ 0 → ⊥) → (cond (isDone (w .told .answer)) (o .first) hs ≡ hs) × (w .flow ≡ f)
-  change-kept z = (list-kept w hs (o .first) z, then-kept (withFlow (o .result) f) (o .first) f z)
+  change-kept z = (list-kept w hs (o .first) z, then-kept (besideFlow (o .result) f) (o .first) f z)
 
   module _ (z : w .told .answer .number ≡ 0) where
     -- the call was done
     pub change-done : isDone (answerOf r) ≡ true
-    change-done = done-test (o .result) (answerOf r) o-answer (left-done (o .result) (answerOf (flowRows f)) r o-answer (then-done (withFlow (o .result) f) (o .first) f z .0))
+    change-done = done-test (o .result) (answerOf r) o-answer (left-done (o .result) (answerOf (flowRows f)) (then-done (besideFlow (o .result) f) (o .first) f z .0))
 
     pub change-is : cond (isDone (w .told .answer)) (o .first) hs ≡ o .first
     change-is = list-is w hs (o .first) z
 
     pub change-frontier : frontier (readers (o .first)) < 9223372036854775808 → frontierIn (w .flow) ≡ frontier (readers (o .first))
-    change-frontier = then-frontier (withFlow (o .result) f) (o .first) f z
+    change-frontier = then-frontier (besideFlow (o .result) f) (o .first) f z
 
 -- A MATCH
 module _ (hs : List ReaderHead) (f : WriterSendBuffer) (m : Match) where
@@ -83,7 +82,7 @@ module _ (hs : List ReaderHead) (f : WriterSendBuffer) (i : ℕ) where
   gone = departStep hs f i
 
   abbrev goneRows : Rows
-  goneRows = listed false (isCoherent hs) false (unknown i (readers hs)) false
+  goneRows = listRows false (listCoherent hs) false (idUnknown i (readers hs)) false
 
   pub depart-kept : (gone .result .answer .number ≡ 0 → ⊥) → (gone .first ≡ hs) × (gone .second ≡ f)
   depart-kept = change-kept hs f goneRows _
@@ -120,11 +119,11 @@ module _ (hs : List ReaderHead) (f : WriterSendBuffer) (i : ℕ) (set : Sequence
   abbrev all : Answer
   all = amongAnswer beside last′ set (f .last) h unsent gaps
 
-  nacked-answer : nacked .result .answer ≡ all
+  nacked-answer : nacked .result .answer .number ≡ all .number
   nacked-answer = go (isDone all) refl
     where
-      go : (t : Bool) → isDone all ≡ t → cond {A = Left2 AckNacked (List ℕ) (List ℕ)} t (ackLeaves set (rankOf (f .last)) h unsent gaps) (not-taken all) .result .answer ≡ all
-      go true e = sym (done-is all (eqb-true (all .number) 0 e))
+      go : (t : Bool) → isDone all ≡ t → cond {A = Left2 AckNacked (List ℕ) (List ℕ)} t (ackLeaves set (rankOf (f .last)) h unsent gaps) (not-taken all) .result .answer .number ≡ all .number
+      go true e = sym (eqb-true (all .number) 0 e)
       go false e = refl
 
   -- a refusal changes nothing: neither the list and the flow record, nor the reader's record and its rooms
@@ -133,11 +132,11 @@ module _ (hs : List ReaderHead) (f : WriterSendBuffer) (i : ℕ) (set : Sequence
       ((list-kept (after (nacked .result .answer) (ackStored hs f i set h) f) hs (ackedList hs i set h) n, then-kept (nacked .result .answer) (ackedList hs i set h) f n), go (isDone all) refl)
     where
       stored-too : nacked .result .answer .number ≡ 0 → last′ .number ≡ 0
-      stored-too y = turn-done (earlier (answerOf (ackRows h unsent gaps set (f .last))) beside) last′ (sym (ap (λ (x : Answer). x .number) nacked-answer) ∙ y) .1
+      stored-too y = turn-done (earlier (answerOf (ackRows h unsent gaps set (f .last))) beside) last′ (sym nacked-answer ∙ y) .1
 
       never : isDone all ≡ true → ⊥
       never e =
-          let y : nacked .result .answer .number ≡ 0 = ap (λ (x : Answer). x .number) nacked-answer ∙ eqb-true (all .number) 0 e in
+          let y : nacked .result .answer .number ≡ 0 = nacked-answer ∙ eqb-true (all .number) 0 e in
           n (ap (λ (t : Bool). cond {A = Woken} t (ackStored hs f i set h) (record { told = record { answer = nacked .result .answer; yes = false }; flow = f }) .told .answer .number) (eq-eqb (nacked .result .answer .number) 0 y) ∙ stored-too y)
 
       outcome : Bool → Left2 AckNacked (List ℕ) (List ℕ)
@@ -152,23 +151,23 @@ module _ (hs : List ReaderHead) (f : WriterSendBuffer) (i : ℕ) (set : Sequence
     taken = then-done (nacked .result .answer) (ackedList hs i set h) f z .0
 
     all-done : earlier (answerOf (ackRows h unsent gaps set (f .last))) beside .number ≡ 0
-    all-done = turn-done (earlier (answerOf (ackRows h unsent gaps set (f .last))) beside) last′ (sym (ap (λ (x : Answer). x .number) nacked-answer) ∙ taken) .0
+    all-done = turn-done (earlier (answerOf (ackRows h unsent gaps set (f .last))) beside) last′ (sym nacked-answer ∙ taken) .0
 
     -- none of its calls was refused
     pub ack-called : answerOf (ackRows h unsent gaps set (f .last)) .number ≡ 0
-    ack-called = left-done (answerOf (ackRows h unsent gaps set (f .last))) beside (ackRows h unsent gaps set (f .last)) refl all-done
+    ack-called = left-done (answerOf (ackRows h unsent gaps set (f .last))) beside all-done
 
     beside-done : beside .number ≡ 0
-    beside-done = right-done (answerOf (ackRows h unsent gaps set (f .last))) beside (saidRows there (answerOf (flowRows f))) refl all-done
+    beside-done = right-done (answerOf (ackRows h unsent gaps set (f .last))) beside all-done
 
     there-done : there .number ≡ 0
-    there-done = left-done there (answerOf (flowRows f)) (saidRows (foundOf hs i .answer) (answerOf (agreeRows (foundOf hs i) h))) refl beside-done
+    there-done = left-done there (answerOf (flowRows f)) beside-done
 
     pub ack-found : foundOf hs i .answer .number ≡ 0
-    ack-found = left-done (foundOf hs i .answer) (answerOf (agreeRows (foundOf hs i) h)) (foundRows hs i) (found-answer hs i) there-done
+    ack-found = left-done (foundOf hs i .answer) (answerOf (agreeRows (foundOf hs i) h)) there-done
 
     pub ack-agreed : answerOf (agreeRows (foundOf hs i) h) .number ≡ 0
-    ack-agreed = right-done (foundOf hs i .answer) (answerOf (agreeRows (foundOf hs i) h)) (agreeRows (foundOf hs i) h) refl there-done
+    ack-agreed = right-done (foundOf hs i .answer) (answerOf (agreeRows (foundOf hs i) h)) there-done
 
     -- the record is as its own call leaves it, and the head's acked is the record's
     pub ack-taken : nacked ≡ ackLeaves set (rankOf (f .last)) h unsent gaps
@@ -177,8 +176,8 @@ module _ (hs : List ReaderHead) (f : WriterSendBuffer) (i : ℕ) (set : Sequence
     known : Clear (foundRows hs i)
     known = clear (foundRows hs i) (foundOf hs i .answer) (found-answer hs i) ack-found
 
-    ack-set : isDone (answerOf (listed false (isCoherent hs) (negative (ackedBy set h)) (unknown i (readers hs)) false)) ≡ true
-    ack-set = rw (known .incoherent, known .reader, at-least-0) refl
+    ack-set : isDone (answerOf (listRows false (listCoherent hs) (negative (ackedBy set h)) (idUnknown i (readers hs)) false)) ≡ true
+    ack-set = rw (known 1 refl, known 11 refl, at-least-0) refl
 
     pub ack-moves : readers (step .first) ≡ acknowledged i (rankOf (step .result .proxy .«all_acked_before»)) (readers hs)
     ack-moves =

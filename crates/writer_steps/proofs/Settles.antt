@@ -22,7 +22,7 @@ use Rattle.reader_list.specs.declared.calls.Front.{Front}
 use Rattle.reader_list.specs.declared.ends.Put.{Put}
 use Rattle.reader_list.specs.declared.walk.Seen.{Seen}
 use Rattle.reader_list.specs.Slots.{frontOf, foundOf, matchOf, departOf, ackOf}
-use Rattle.reader_list.specs.Walk.{matchEnd, departEnd, ackedEnd, foundEnd, asking, frontWith, seenFor, seenMatch}
+use Rattle.reader_list.specs.Walk.{matchEnd, departEnd, ackedEnd, foundEnd, walkAsking, frontWith, seenFor, seenMatch}
 use Rattle.reader_list.proofs.Answers.{match-gives, depart-gives, found-answers}
 use Rattle.reader_list.proofs.Foreseen.{match-front, depart-front, ack-front, ack-gives}
 use Rattle.writer_send_buffer.specs.declared.flow.WriterSendBuffer.{WriterSendBuffer}
@@ -33,13 +33,13 @@ use Rattle.writer_steps.specs.declared.acks.AckSettled.{AckSettled}
 use Rattle.writer_steps.specs.declared.stores.Settled.{Settled}
 use Rattle.writer_steps.specs.declared.two.Listed2.{Listed2}
 use Rattle.writer_steps.specs.declared.two.AckTaken2.{AckTaken2}
-use Rattle.writer_steps.specs.Readers.{storedOf, withFlow, after, listed, listStep, matchStep, departStep, settledOf, putSettled, matchSettled, departSettled}
+use Rattle.writer_steps.specs.Readers.{storedOf, besideFlow, after, listAfter, listStep, matchStep, departStep, settledOf, putSettled, matchSettled, departSettled}
 use Rattle.writer_steps.specs.Acks.{ackedBy, besideAck, ackedList, ackStored, ackLeft, ackStep, ackPut, ackAhead, ackSettledBy, ackTaken, ackSettled}
 use Rattle.writer_steps.specs.Two.{listed2, taken2}
 
 -- one slot stored, where the step is done
 module _ (hs : List ReaderHead) (few : length hs < 2 ^ 64) (p : Put) (o : List ReaderHead) (g : set hs (p .at) (p .head) ≡ o) where
-  put-listed : (w : Woken) → set hs (settledOf w p .at) (settledOf w p .head) ≡ listed w hs o
+  put-listed : (w : Woken) → set hs (settledOf w p .at) (settledOf w p .head) ≡ listAfter w hs o
   put-listed w = go (isDone (w .told .answer))
     where
       go : (b : Bool) → set hs (cond b (p .at) 18446744073709551615) (p .head) ≡ cond b o hs
@@ -49,19 +49,19 @@ module _ (hs : List ReaderHead) (few : length hs < 2 ^ 64) (p : Put) (o : List R
 -- A CHANGE OF THE LIST
 module _ (hs : List ReaderHead) (few : length hs < 2 ^ 64) (f : WriterSendBuffer) (p : Put) (front : Front) (o : Left1 Answer (List ReaderHead)) (g : Gives1 (p .answer) (set hs (p .at) (p .head)) o) (e : front ≡ frontOf (o .first)) where
   abbrev w : Woken
-  w = after (withFlow (p .answer) f) (storedOf front f) f
+  w = after (besideFlow (p .answer) f) (storedOf front f) f
 
   abbrev w′ : Woken
-  w′ = after (withFlow (o .result) f) (storedOf (frontOf (o .first)) f) f
+  w′ = after (besideFlow (o .result) f) (storedOf (frontOf (o .first)) f) f
 
   same : w ≡ w′
-  same = λ i. after (withFlow (g .result i) f) (storedOf (e i) f) f
+  same = λ i. after (besideFlow (g .result i) f) (storedOf (e i) f) f
 
   settles-listed : Gives2 (settledOf w p .told) (set hs (settledOf w p .at) (settledOf w p .head)) (settledOf w p .flow) (listStep hs f o)
   settles-listed =
       record {
         result = ap (λ (x : Woken). x .told) same;
-        first = put-listed hs few p (o .first) (g .first) w ∙ ap (λ (x : Woken). listed x hs (o .first)) same;
+        first = put-listed hs few p (o .first) (g .first) w ∙ ap (λ (x : Woken). listAfter x hs (o .first)) same;
         second = ap (λ (x : Woken). x .flow) same;
       }
 
@@ -76,7 +76,7 @@ module _ (hs : List ReaderHead) (f : WriterSendBuffer) where
 
 -- what a change of the list decides, call by call
 pub list-decided : (f : WriterSendBuffer) (s : Seen) (p : Put) → (front : Front) → front ≡ frontWith p s → (w : Woken) → w ≡ storedOf front f
-    → (a : Answer) → a ≡ withFlow (p .answer) f → (w′ : Woken) → w′ ≡ after a w f → (d : Settled) → d ≡ settledOf w′ p → d ≡ putSettled f p s
+    → (a : Answer) → a ≡ besideFlow (p .answer) f → (w′ : Woken) → w′ ≡ after a w f → (d : Settled) → d ≡ settledOf w′ p → d ≡ putSettled f p s
 list-decided f s p front ef w ew a ea w′ ew′ d es =
     es
     ∙ ap (λ (x : Woken). settledOf x p) (ew′ ∙ (λ i. after (ea i) ((ew ∙ ap (λ (x : Front). storedOf x f) ef) i) f))
@@ -120,10 +120,10 @@ module _ (hs : List ReaderHead) (f : WriterSendBuffer) (h : ReaderProxy) (unsent
 
 -- what an ACKNACK decides, call by call
 module _ (f : WriterSendBuffer) (h : ReaderProxy) (unsent gaps : List ℕ) (z : SequenceNumberSet) (s : Seen) (found : Found) (ed : found ≡ foundEnd s) (b : Answer) (eb : b ≡ besideAck f found h)
-    (n : SequenceNumber) (en : n ≡ ackedBy z h) (t : Seen) (et : t ≡ asking n s) (p : Put) (ep : p ≡ ackedEnd t) (front : Front) (ef : front ≡ frontWith p t) (w : Woken) (ew : w ≡ storedOf front f)
+    (n : SequenceNumber) (en : n ≡ ackedBy z h) (t : Seen) (et : t ≡ walkAsking n s) (p : Put) (ep : p ≡ ackedEnd t) (front : Front) (ef : front ≡ frontWith p t) (w : Woken) (ew : w ≡ storedOf front f)
     (r : AckNacked) (u g : List ℕ) (o : Gives2 r u g (ackNackedAmong b (w .told .answer) z (f .last) h unsent gaps)) (w′ : Woken) (ew′ : w′ ≡ after (r .answer) w f) (d : Settled) (es : d ≡ settledOf w′ p) where
-  is-asking : t ≡ asking (ackedBy z h) s
-  is-asking = et ∙ ap (λ (x : SequenceNumber). asking x s) en
+  is-asking : t ≡ walkAsking (ackedBy z h) s
+  is-asking = et ∙ ap (λ (x : SequenceNumber). walkAsking x s) en
 
   is-put : p ≡ ackPut z h s
   is-put = ep ∙ ap ackedEnd is-asking

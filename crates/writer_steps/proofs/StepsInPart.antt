@@ -7,7 +7,7 @@ use native.Mathlib.Omega.{arith}
 use lib.ListN.{length, take, drop, length-drop, take-append-drop}
 use Rattle.sets.specs.Sets.{empty}
 use Rattle.numbers.specs.Number.{rankOf, numberAt}
-use Rattle.numbers.specs.Refusals.{row, rowsOf, done, isDone, unless}
+use Rattle.numbers.specs.Refusals.{row, done, isDone, unless}
 use Rattle.numbers.specs.Answers.{earlier, firstAnswer, stepped}
 use Rattle.numbers.specs.Cursor.{cursorAt}
 use Rattle.numbers.specs.Promise.{Left1, Left2, Left4}
@@ -21,10 +21,10 @@ use Rattle.rtps_reader_proxy.specs.declared.proxy.ReaderProxy.{ReaderProxy}
 use Rattle.rtps_reader_proxy.specs.declared.proxy.Changed.{Changed}
 use Rattle.rtps_reader_proxy.specs.declared.acks.AckNacked.{AckNacked}
 use Rattle.rtps_reader_proxy.specs.Reader.{taken, untaken}
-use Rattle.rtps_reader_proxy.specs.Record.{roomFor, unsentOk, gapsOk}
+use Rattle.rtps_reader_proxy.specs.Record.{roomFor, unsentCoherent, gapsCoherent}
 use Rattle.rtps_reader_proxy.specs.Unsent.{countUnsent, markedSentOf}
 use Rattle.rtps_reader_proxy.specs.Acks.{ackFits}
-use Rattle.rtps_reader_proxy.specs.Fragments.{fragsOk, fragsRequestedOf}
+use Rattle.rtps_reader_proxy.specs.Fragments.{fragsCoherent, fragsRequestedOf}
 use Rattle.rtps_reader_proxy.proofs.UnsentCalls.{unsent-is, untaken-is}
 use Rattle.reader_record.specs.InPart.{AsWhole, AsWholes}
 use Rattle.reader_record.proofs.UnsentInPart.{old-long, unsent-held, unsent-glue, unsent-part-ok, mark-in-part, next-unsent-in-part}
@@ -35,13 +35,13 @@ use Rattle.reader_list.specs.Slots.{foundOf}
 use Rattle.writer_send_buffer.specs.declared.flow.WriterSendBuffer.{WriterSendBuffer}
 use Rattle.writer_send_buffer.specs.declared.frontiers.Woken.{Woken}
 use Rattle.writer_send_buffer.specs.Flow.{retained}
-use Rattle.writer_send_buffer.specs.Buffer.{view, firstOf}
-use Rattle.writer_send_buffer.specs.Samples.{isCoherentStore, storeRows}
+use Rattle.writer_send_buffer.specs.Buffer.{flowView, firstOf}
+use Rattle.writer_send_buffer.specs.Samples.{storeCoherent, storeRows}
 use Rattle.writer_send_buffer.proofs.Sound.{holds}
 use Rattle.writer_steps.specs.declared.acks.AckTold.{AckTold}
 use Rattle.writer_steps.specs.declared.send.Sent.{Sent}
 use Rattle.writer_steps.specs.declared.many.SentMany.{SentMany}
-use Rattle.writer_steps.specs.Readers.{after, listed}
+use Rattle.writer_steps.specs.Readers.{after, listAfter}
 use Rattle.writer_steps.specs.Acks.{besideAck, ackedList, ackStored, ackStep}
 use Rattle.writer_steps.specs.Frags.{notAsked, nackFragStep}
 use Rattle.writer_steps.specs.Send.{firstUnsent, sendOf}
@@ -49,7 +49,7 @@ use Rattle.writer_steps.specs.Many.{Sending, sending, goneAs, mostOf, ma
 use Rattle.writer_steps.proofs.Repeats.{sending-is}
 
 -- AN ACKNACK
-module _ (h : ReaderProxy) (room gaps : List ℕ) (ok : unsentOk h room ≡ true) (gok : gapsOk h gaps ≡ true) (whole : length room ≡ h .«unsent_cap») (gwhole : length gaps ≡ 256)
+module _ (h : ReaderProxy) (room gaps : List ℕ) (ok : unsentCoherent h room ≡ true) (gok : gapsCoherent h gaps ≡ true) (whole : length room ≡ h .«unsent_cap») (gwhole : length gaps ≡ 256)
     (k j : ℕ) (lo : h .«unsent_count» ≤ k) (hi : k ≤ h .«unsent_cap») (glo : h .«gap_count» ≤ j) (ghi : j ≤ 256) (set : SequenceNumberSet) (fits : ackFits h (take k room) set ≡ true)
     (hs : List ReaderHead) (f : WriterSendBuffer) (i : ℕ) where
   abbrev part : Left4 AckTold (List ReaderHead) WriterSendBuffer (List ℕ) (List ℕ)
@@ -65,14 +65,14 @@ module _ (h : ReaderProxy) (room gaps : List ℕ) (ok : unsentOk h room ≡ true
   ack-step-in-part =
       let p = ack-nack-among-in-part h room gaps ok gok whole gwhole k j lo hi glo ghi set (f .last) fits (besideAck f (foundOf hs i) h) (w .told .answer) in (
         ap (λ (r : AckNacked). told r) (p .0),
-        (ap (λ (r : AckNacked). listed (after (r .answer) w f) hs (ackedList hs i set h)) (p .0), (ap (λ (r : AckNacked). after (r .answer) w f .flow) (p .0), (p .1 .0, p .1 .1))),
+        (ap (λ (r : AckNacked). listAfter (after (r .answer) w f) hs (ackedList hs i set h)) (p .0), (ap (λ (r : AckNacked). after (r .answer) w f .flow) (p .0), (p .1 .0, p .1 .1))),
       )
     where
       told : AckNacked → AckTold
       told r = record { told = after (r .answer) w f .told; «left_out» = r .«left_out»; proxy = r .proxy }
 
 -- A NACK_FRAG
-module _ (h : ReaderProxy) (S W : List ℕ) (ok : fragsOk h S W ≡ true) (whole : length S ≡ 16) (k : ℕ) (lo : h .«frag_count» ≤ k) (hi : k ≤ 16) (n : SequenceNumber) (set : FragmentNumberSet)
+module _ (h : ReaderProxy) (S W : List ℕ) (ok : fragsCoherent h S W ≡ true) (whole : length S ≡ 16) (k : ℕ) (lo : h .«frag_count» ≤ k) (hi : k ≤ 16) (n : SequenceNumber) (set : FragmentNumberSet)
     (fits : roomFor 1 16 (h .«frag_count») (take k S) ≡ true) (hs : List ReaderHead) (i : ℕ) where
   pub nack-frag-in-part : AsWholes (drop k S) (drop (64 * k) W) (nackFragStep hs i n set h (take k S) (take (64 * k) W)) (nackFragStep hs i n set h S W)
   nack-frag-in-part = go (isDone (foundOf hs i .answer))
@@ -91,7 +91,7 @@ module _ (h : ReaderProxy) (S W : List ℕ) (ok : fragsOk h S W ≡ true) (whole
       go false = (ap refused (p .0), (take-append-drop k S, take-append-drop (64 * k) W))
 
 -- SENDING
-module _ (h : ReaderProxy) (room : List ℕ) (ok : unsentOk h room ≡ true) (whole : length room ≡ h .«unsent_cap») (k : ℕ) (lo : h .«unsent_count» ≤ k) (hi : k ≤ h .«unsent_cap») (f : WriterSendBuffer) where
+module _ (h : ReaderProxy) (room : List ℕ) (ok : unsentCoherent h room ≡ true) (whole : length room ≡ h .«unsent_cap») (k : ℕ) (lo : h .«unsent_count» ≤ k) (hi : k ≤ h .«unsent_cap») (f : WriterSendBuffer) where
   abbrev u : List ℕ
   u = take k room
 
@@ -100,7 +100,7 @@ module _ (h : ReaderProxy) (room : List ℕ) (ok : unsentOk h room ≡ true) (wh
   sends x m l =
       stepped (firstOf f .answer ∷ x .answer ∷ [])
       (λ a. record { result = record { answer = a; number = numberAt 0; «data» = false; proxy = h }; first = l })
-      (record { result = record { answer = done; number = x .number; «data» = retained (rankOf (x .number)) (view f); proxy = m .result .proxy }; first = m .first })
+      (record { result = record { answer = done; number = x .number; «data» = retained (rankOf (x .number)) (flowView f); proxy = m .result .proxy }; first = m .first })
 
   pub send-in-part : AsWhole (drop k room) (sendOf f h u) (sendOf f h room)
   send-in-part = (ap (λ (o : Left1 Sent (List ℕ)). o .result) same ∙ both .0, ap (λ (o : Left1 Sent (List ℕ)). o .first ++ drop k room) same ∙ both .1)
@@ -115,7 +115,7 @@ module _ (h : ReaderProxy) (room : List ℕ) (ok : unsentOk h room ≡ true) (wh
       p = mark-in-part h room ok whole k lo hi (x .number)
 
       sent : Changed → Sent
-      sent c = record { answer = done; number = x .number; «data» = retained (rankOf (x .number)) (view f); proxy = c .proxy }
+      sent c = record { answer = done; number = x .number; «data» = retained (rankOf (x .number)) (flowView f); proxy = c .proxy }
 
       a : Answer
       a = firstAnswer (firstOf f .answer ∷ x .answer ∷ [])
@@ -152,7 +152,7 @@ module _ (h : ReaderProxy) (room : List ℕ) (ok : unsentOk h room ≡ true) (wh
 
     abbrev manyBy : Bool → Bool → Bool → Sending → List ℕ → Out
     manyBy t v none s lent =
-        unless (rowsOf (row 1 (not (t && v)) ∷ row 14 none ∷ []))
+        unless (row 1 refl (not (t && v)) ∷ row 14 refl none ∷ [])
         (λ a. record { result = record { answer = a; count = 0; proxy = h }; first = lent; second = ns; third = ss; fourth = ls })
         (manyLeft f space lens s ns ss ls)
 
@@ -165,13 +165,13 @@ module _ (h : ReaderProxy) (room : List ℕ) (ok : unsentOk h room ≡ true) (wh
     decided true false = (refl, (unsent-glue h room ok whole k lo hi (untaken most old) few, (refl, (refl, refl))))
 
     pub send-many-in-part : AsAll (sendManyOf f space lens h u ns ss ls) (sendManyOf f space lens h room ns ss ls)
-    send-many-in-part = go (isCoherentStore f space lens) refl
+    send-many-in-part = go (storeCoherent f space lens) refl
       where
-        go : (t : Bool) → isCoherentStore f space lens ≡ t → AsAll (sendManyOf f space lens h u ns ss ls) (sendManyOf f space lens h room ns ss ls)
+        go : (t : Bool) → storeCoherent f space lens ≡ t → AsAll (sendManyOf f space lens h u ns ss ls) (sendManyOf f space lens h room ns ss ls)
         go false c =
             as-all (sendManyOf f space lens h u ns ss ls) (manyBy false true (empty old) (goes u old) u) (sendManyOf f space lens h room ns ss ls) (manyBy false true (empty old) (goes room old) room)
-            (ap (λ (b : Bool). manyBy b (unsentOk h u) (empty (take (h .«unsent_count») u)) (sending most f h u) u) c)
-            (ap (λ (b : Bool). manyBy b (unsentOk h room) (empty old) (sending most f h room) room) c)
+            (ap (λ (b : Bool). manyBy b (unsentCoherent h u) (empty (take (h .«unsent_count») u)) (sending most f h u) u) c)
+            (ap (λ (b : Bool). manyBy b (unsentCoherent h room) (empty old) (sending most f h room) room) c)
             (decided false (empty old))
         go true c =
             let good = unsent-part-ok h room ok whole k lo hi in

@@ -7,26 +7,25 @@ use mathlib.Core.List.{List, [], _∷_}
 use lib.Dec.{ltb, eqb}
 use borrow.Author.Tests.{eq-eqb, ne-eqb, eqb-true, eqb-false, lt-ltb}
 use Rattle.numbers.specs.Number.{rankOf, negative, numberAt}
-use Rattle.numbers.specs.Refusals.{row, rowsOf, answerOf, done, isDone}
+use Rattle.numbers.specs.Refusals.{row, answerOf, done, isDone, Rows}
 use Rattle.numbers.specs.Promise.{Left1, Left2}
 use Rattle.numbers.specs.declared.answer.Answer.{Answer}
-use Rattle.numbers.specs.declared.answer.Rows.{Rows}
 use Rattle.reader_list.specs.declared.heads.ReaderHead.{ReaderHead}
 use Rattle.reader_list.specs.declared.heads.AckedFrontier.{AckedFrontier}
 use Rattle.reader_list.specs.declared.calls.Found.{Found}
 use Rattle.reader_list.specs.declared.calls.Front.{Front}
 use Rattle.reader_list.specs.Readers.{frontier}
-use Rattle.reader_list.specs.Slots.{readers, isCoherent, freeSlot, unknown, frontierOf, frontierAt, foundOf, frontOf}
+use Rattle.reader_list.specs.Slots.{readers, listCoherent, freeSlot, idUnknown, frontierOf, frontierAt, foundOf, frontOf}
 use Rattle.reader_list.specs.Slots as slots
 use Rattle.reader_list.proofs.Smallest.{frontier-back}
 use Rattle.writer_send_buffer.specs.declared.flow.WriterSendBuffer.{WriterSendBuffer}
 use Rattle.writer_send_buffer.specs.declared.flow.Told.{Told}
 use Rattle.writer_send_buffer.specs.declared.frontiers.Woken.{Woken}
 use Rattle.writer_send_buffer.specs.Flow.{ahead, stored, wakes}
-use Rattle.writer_send_buffer.specs.Buffer.{view, form, ranged, ackedOf, toldNo, woken}
+use Rattle.writer_send_buffer.specs.Buffer.{flowView, flowForm, ranged, ackedOf, toldNo, woken}
 use Rattle.writer_send_buffer.specs.Buffer as buffer
 use Rattle.numbers.specs.Answers.{earlier, answered}
-use Rattle.writer_steps.specs.Readers.{notStored, storedOf, withFlow, after, listed, listStep, frontierIn}
+use Rattle.writer_steps.specs.Readers.{notStored, storedOf, besideFlow, after, listAfter, listStep, frontierIn}
 use Rattle.numbers.proofs.Answered.{unless-answer, unless-done}
 
 -- what is answered, where it is done
@@ -40,7 +39,7 @@ answered-done g a f d h z = go (isDone a) refl z
 -- STORING
 
 -- the frontier of a list, stored as it is
-held : (n : ℕ) (f : WriterSendBuffer) → n < 9223372036854775808 → frontierIn (form (stored n (view f))) ≡ n
+held : (n : ℕ) (f : WriterSendBuffer) → n < 9223372036854775808 → frontierIn (flowForm (stored n (flowView f))) ≡ n
 held n f h = go (eqb n 0) refl
   where
     go : (t : Bool) → eqb n 0 ≡ t → cond (not t) (rankOf (numberAt (cond t (rankOf (f .acked)) n))) 0 ≡ n
@@ -52,10 +51,10 @@ module _ (f : WriterSendBuffer) (a : AckedFrontier) where
   not-put x = record { result = toldNo x; first = f }
 
   abbrev is-put : Left1 Told WriterSendBuffer
-  is-put = record { result = record { answer = done; yes = wakes (frontierOf a) (view f) }; first = form (stored (frontierOf a) (view f)) }
+  is-put = record { result = record { answer = done; yes = wakes (frontierOf a) (flowView f) }; first = flowForm (stored (frontierOf a) (flowView f)) }
 
   abbrev putRows : Rows
-  putRows = ranged (buffer.isCoherent f) (ahead (frontierOf a) (view f))
+  putRows = ranged (buffer.flowCoherent f) (ahead (frontierOf a) (flowView f))
 
   put-answer : ackedOf f a .result .answer ≡ answerOf putRows
   put-answer = unless-answer (λ (o : Left1 Told WriterSendBuffer). o .result .answer) putRows not-put is-put (λ x. refl) refl
@@ -77,16 +76,16 @@ module _ (hs : List ReaderHead) where
   abbrev the-front : Front
   the-front = record { answer = done; frontier = frontierAt (frontier (readers hs)) }
 
-  front-answer : frontOf hs .answer ≡ answerOf (slots.listed false (isCoherent hs) false false false)
-  front-answer = unless-answer (λ (o : Front). o .answer) (slots.listed false (isCoherent hs) false false false) no-front the-front (λ x. refl) refl
+  front-answer : frontOf hs .answer ≡ answerOf (slots.listRows false (listCoherent hs) false false false)
+  front-answer = unless-answer (λ (o : Front). o .answer) (slots.listRows false (listCoherent hs) false false false) no-front the-front (λ x. refl) refl
 
   front-done : frontOf hs .answer .number ≡ 0 → frontOf hs ≡ the-front
-  front-done z = unless-done (λ (o : Front). o .answer) (slots.listed false (isCoherent hs) false false false) no-front the-front (λ x. refl) refl z
+  front-done z = unless-done (λ (o : Front). o .answer) (slots.listRows false (listCoherent hs) false false false) no-front the-front (λ x. refl) refl z
 
 -- a reader looked up: the answer is that of its rows
 module _ (hs : List ReaderHead) (i : ℕ) where
   abbrev pub foundRows : Rows
-  foundRows = slots.listed false (isCoherent hs) false (unknown i (readers hs)) false
+  foundRows = slots.listRows false (listCoherent hs) false (idUnknown i (readers hs)) false
 
   pub found-answer : foundOf hs i .answer ≡ answerOf foundRows
   found-answer = unless-answer (λ (x : Found). x .answer) foundRows (λ no. record { answer = no; place = 0; head = freeSlot }) _ (λ x. refl) refl
@@ -112,8 +111,8 @@ module _ (hs : List ReaderHead) (f : WriterSendBuffer) where
         ap frontierIn
         (ap (λ (x : Woken). x .flow) (both .1)
         ∙ ap (λ (o : Left1 Told WriterSendBuffer). o .first) (put-done f (frontOf hs .frontier) (sym (ap (λ (x : Woken). x .told .answer .number) (both .1)) ∙ z))
-        ∙ ap (λ (o : Front). form (stored (frontierOf (o .frontier)) (view f))) (front-done hs (both .0))
-        ∙ ap (λ (n : ℕ). form (stored n (view f))) (frontier-back (frontier (readers hs)) small))
+        ∙ ap (λ (o : Front). flowForm (stored (frontierOf (o .frontier)) (flowView f))) (front-done hs (both .0))
+        ∙ ap (λ (n : ℕ). flowForm (stored n (flowView f))) (frontier-back (frontier (readers hs)) small))
         ∙ held (frontier (readers hs)) f small
 
 -- and after a call that is answered so
@@ -140,37 +139,12 @@ module _ (a : Answer) (hs : List ReaderHead) (f : WriterSendBuffer) where
 
 -- THE LIST, where the step is refused and where it is done
 module _ (w : Woken) (old new : List ReaderHead) where
-  pub list-kept : (w .told .answer .number ≡ 0 → ⊥) → listed w old new ≡ old
+  pub list-kept : (w .told .answer .number ≡ 0 → ⊥) → listAfter w old new ≡ old
   list-kept z = ap (λ (t : Bool). cond t new old) (ne-eqb (w .told .answer .number) 0 z)
 
-  pub list-is : w .told .answer .number ≡ 0 → listed w old new ≡ new
+  pub list-is : w .told .answer .number ≡ 0 → listAfter w old new ≡ new
   list-is z = ap (λ (t : Bool). cond t new old) (eq-eqb (w .told .answer .number) 0 z)
 
 -- THE FLOW RECORD asked with the rest: where it is coherent, the answer is what the rest is answered
-module _ where
-  abbrev stays : ℕ → Type 0
-  stays n = earlier (record { number = n }) done ≡ record { number = n }
-
-  pick : (t : Bool) (x y : ℕ) → stays x → stays y → stays (cond t x y)
-  pick true x y a b = a
-  pick false x y a b = b
-
-  alone : (r : Rows) → earlier (answerOf r) done ≡ answerOf r
-  alone r =
-      pick (r .limit) 13 _ refl
-      (pick (r .incoherent) 1 _ refl
-      (pick (r .bits) 3 _ refl
-      (pick (r .range) 2 _ refl
-      (pick (r .reader) 11 _ refl
-      (pick (r .ahead) 12 _ refl
-      (pick (r .payload) 4 _ refl
-      (pick (r .«used_up») 5 _ refl
-      (pick (r .«would_block») 6 _ refl
-      (pick (r .«store_full») 7 _ refl
-      (pick (r .«readers_full») 8 _ refl
-      (pick (r .«gaps_full») 9 _ refl
-      (pick (r .«frags_full») 10 _ refl
-      (pick (r .nothing) 14 0 refl refl)))))))))))))
-
-pub with-coherent : (r : Rows) (f : WriterSendBuffer) → buffer.isCoherent f ≡ true → withFlow (answerOf r) f ≡ answerOf r
-with-coherent r f c = ap (λ (t : Bool). earlier (answerOf r) (answerOf (rowsOf (row 1 (not t) ∷ [])))) c ∙ alone r
+pub with-coherent : (r : Rows) (f : WriterSendBuffer) → buffer.flowCoherent f ≡ true → besideFlow (answerOf r) f ≡ answerOf r
+with-coherent r f c = ap (λ (t : Bool). earlier (answerOf r) (answerOf (row 1 refl (not t) ∷ []))) c

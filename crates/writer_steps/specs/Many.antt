@@ -1,4 +1,5 @@
 -- THE SEND STEP FOR MANY: the single step again and again, with the place of what each time is sent. Assumes nothing.
+use mathlib.Core.Path.{refl}
 use Prim.Native.Nat.{ℕ, zero, suc, _≤_, min}
 use mathlib.Core.Bool.{Bool, not, cond, _&&_}
 use mathlib.Core.List.{List, [], _∷_, map}
@@ -6,19 +7,18 @@ use lib.Dec.{eqb}
 use lib.ListN.{length}
 use Rattle.sets.specs.Sets.{empty}
 use Rattle.numbers.specs.Number.{rankOf, numberAt}
-use Rattle.numbers.specs.Refusals.{row, rowsOf, answerOf, unless, done, isDone}
+use Rattle.numbers.specs.Refusals.{row, answerOf, unless, done, isDone, Rows}
 use Rattle.numbers.specs.Promise.{Left1, Left4}
 use Rattle.numbers.specs.declared.answer.Answer.{Answer}
-use Rattle.numbers.specs.declared.answer.Rows.{Rows}
 use Rattle.rising.specs.Runs.{filled}
 use Rattle.rtps_reader_proxy.specs.declared.proxy.ReaderProxy.{ReaderProxy}
-use Rattle.rtps_reader_proxy.specs.Record.{unsentOk}
+use Rattle.rtps_reader_proxy.specs.Record.{unsentCoherent}
 use Rattle.rtps_reader_proxy.specs.Unsent.{byUnsent}
 use Rattle.writer_send_buffer.specs.declared.flow.WriterSendBuffer.{WriterSendBuffer}
 use Rattle.writer_send_buffer.specs.declared.samples.Located.{Located}
 use Rattle.writer_send_buffer.specs.Flow.{retained}
-use Rattle.writer_send_buffer.specs.Buffer.{view}
-use Rattle.writer_send_buffer.specs.Samples.{isCoherentStore, locateOf, locatedOf}
+use Rattle.writer_send_buffer.specs.Buffer.{flowView}
+use Rattle.writer_send_buffer.specs.Samples.{storeCoherent, locateOf, locatedOf}
 use Rattle.writer_steps.specs.declared.send.Sent.{Sent}
 use Rattle.writer_steps.specs.declared.many.SentMany.{SentMany}
 use Rattle.writer_steps.specs.Send.{sendOf}
@@ -28,7 +28,7 @@ pub record Gone : Type 0 where
   pub number : ℕ
   pub «data» : Bool
 
--- several in turn, and the reader's head and unsent room after them
+-- several in turn, and the reader's proxy and unsent room after them
 pub record Sending : Type 0 where
   pub gone : List Gone
   pub proxy : ReaderProxy
@@ -57,7 +57,7 @@ longAs f room lens g = locateOf f room lens (numberAt (g .number)) .length
 
 -- refused where the store or the unsent room isn't coherent, and where nothing is unsent
 abbrev pub manyRows : WriterSendBuffer → ℕ → List ℕ → ReaderProxy → List ℕ → Rows
-manyRows f room lens h unsent = rowsOf (row 1 (not (isCoherentStore f room lens && unsentOk h unsent)) ∷ row 14 (empty (byUnsent h unsent .unsent)) ∷ [])
+manyRows f room lens h unsent = row 1 refl (not (storeCoherent f room lens && unsentCoherent h unsent)) ∷ row 14 refl (empty (byUnsent h unsent .unsent)) ∷ []
 
 -- as many as each of the three lent rooms has places for
 abbrev pub mostOf : List ℕ → List ℕ → List ℕ → ℕ
@@ -82,13 +82,13 @@ sendManyOf f room lens h unsent numbers starts lengths =
 -- WITHIN: what the private functions ask and leave
 
 abbrev pub goneAs : WriterSendBuffer → ℕ → Gone
-goneAs f n = record { number = n; «data» = retained n (view f) }
+goneAs f n = record { number = n; «data» = retained n (flowView f) }
 
-abbrev pub startOf : Located → ℕ
-startOf l = cond (isDone (l .answer)) (l .start) noStart
+abbrev pub locatedStart : Located → ℕ
+locatedStart l = cond (isDone (l .answer)) (l .start) noStart
 
 abbrev pub startFor : WriterSendBuffer → List ℕ → ℕ → ℕ
-startFor f lens n = startOf (locatedOf f lens (numberAt n))
+startFor f lens n = locatedStart (locatedOf f lens (numberAt n))
 
 abbrev pub lengthFor : WriterSendBuffer → List ℕ → ℕ → ℕ
 lengthFor f lens n = locatedOf f lens (numberAt n) .length
@@ -100,4 +100,4 @@ pub record Placeable (numbers starts lengths : List ℕ) : Type 0 where
 
 -- the answer of the call on the unsent room, or 14
 abbrev pub emptied : Answer → Bool → Answer
-emptied a nothing = answerOf (rowsOf (row 1 (eqb (a .number) 1) ∷ row 14 nothing ∷ []))
+emptied a nothing = answerOf (row 1 refl (eqb (a .number) 1) ∷ row 14 refl nothing ∷ [])

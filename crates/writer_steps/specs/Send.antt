@@ -13,7 +13,7 @@ use Rattle.rtps_reader_proxy.specs.declared.proxy.Changed.{Changed}
 use Rattle.rtps_reader_proxy.specs.Unsent.{nextUnsentOf, markedSentOf}
 use Rattle.writer_send_buffer.specs.declared.flow.WriterSendBuffer.{WriterSendBuffer}
 use Rattle.writer_send_buffer.specs.Flow.{retained}
-use Rattle.writer_send_buffer.specs.Buffer.{view, firstOf}
+use Rattle.writer_send_buffer.specs.Buffer.{flowView, firstOf}
 use Rattle.writer_steps.specs.declared.send.Sent.{Sent}
 use Rattle.numbers.specs.Answers.{stepped}
 
@@ -33,7 +33,7 @@ sendOf f h unsent =
       result = record {
         answer = done;
         number = firstUnsent h unsent .number;
-        «data» = retained (rankOf (firstUnsent h unsent .number)) (view f);
+        «data» = retained (rankOf (firstUnsent h unsent .number)) (flowView f);
         proxy = markedSentOf (firstUnsent h unsent .number) h unsent .result .proxy;
       };
       first = markedSentOf (firstUnsent h unsent .number) h unsent .first;

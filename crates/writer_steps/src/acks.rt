@@ -8,7 +8,6 @@ use crate::stores::stored;
 use crate::stores::with_flow;
 use number_sets::SequenceNumberSet;
 use numbers::Answer;
-use numbers::Rows;
 use numbers::SequenceNumber;
 use numbers::answers::earlier;
 use numbers::arith::larger;
@@ -24,7 +23,7 @@ use rtps_reader_proxy::ReaderProxy;
 use writer_send_buffer::Told;
 use writer_send_buffer::WriterSendBuffer;
 
-// The answer and the wake, the requests left out, and the reader's head as it then is.
+// The answer and the wake, the requests left out, and the reader's proxy as it then is.
 #[repr(C)]
 pub struct AckTold {
     pub told: Told,
@@ -56,9 +55,8 @@ fn there_for(found: Found, proxy: ReaderProxy) -> Answer
     let head = found.head;
     let one = head.acked.rank();
     let other = proxy.all_acked_before.rank();
-    let mut rows = Rows::none();
-    rows.incoherent = (looked.number == 0) & !(one == other);
-    earlier(looked, Answer::of(rows))
+    let apart = (looked.number == 0) & !(one == other);
+    earlier(looked, Answer::done().unless(apart, Answer::INCOHERENT))
 }
 
 // With it, whether the flow record is coherent.

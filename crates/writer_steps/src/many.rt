@@ -4,16 +4,15 @@ ghost use mathlib.Core.List.{map};
 ghost use lib.Dec.{eqb};
 ghost use Rattle.numbers.specs.Promise.{Gives4};
 ghost use Rattle.rising.specs.Runs.{filled};
-ghost use Rattle.writer_steps.specs.Many.{startOf, startFor, lengthFor, Placeable, emptied, sendManyOf};
+ghost use Rattle.writer_steps.specs.Many.{locatedStart, startFor, lengthFor, Placeable, emptied, sendManyOf};
 use numbers::Answer;
-use numbers::Rows;
 use numbers::SequenceNumber;
 use numbers::arith::smaller;
 use rtps_reader_proxy::ReaderProxy;
 use writer_send_buffer::Located;
 use writer_send_buffer::WriterSendBuffer;
 
-// How many numbers were sent, and the reader's head as it then is.
+// How many numbers were sent, and the reader's proxy as it then is.
 #[repr(C)]
 pub struct SentMany {
     pub answer: Answer,
@@ -27,7 +26,7 @@ impl SentMany {
 }
 
 fn start_of(at: Located) -> u64
-    ensures { λ r. ⌜ r ≡ startOf at ⌝ }
+    ensures { λ r. ⌜ r ≡ locatedStart at ⌝ }
 {
     let answer = at.answer;
     if answer.number != 0 {
@@ -66,10 +65,10 @@ fn places(
 fn emptied(answer: Answer, count: usize) -> Answer
     ensures { λ r. ⌜ r ≡ emptied answer (eqb count 0) ⌝ }
 {
-    let mut rows = Rows::none();
-    rows.incoherent = answer.number == Answer::INCOHERENT;
-    rows.nothing = count == 0;
-    Answer::of(rows)
+    let incoherent = answer.number == Answer::INCOHERENT;
+    Answer::done()
+        .unless(count == 0, Answer::NOTHING)
+        .unless(incoherent, Answer::INCOHERENT)
 }
 
 pub fn send_many(
@@ -85,10 +84,9 @@ pub fn send_many(
     ensures { λ r. ⌜ Gives4 r (now (unsent .exit)) (now (numbers .exit)) (now (starts .exit)) (now (lengths .exit)) (sendManyOf flow room (now (lens .entry)) proxy (now (unsent .entry)) (now (numbers .entry)) (now (starts .entry)) (now (lengths .entry))) ⌝ }
 {
     if !flow.is_coherent_store(room, lens) {
+        let answer = Answer::coherence(false);
         return SentMany {
-            answer: Answer {
-                number: Answer::INCOHERENT,
-            },
+            answer,
             count: 0,
             proxy,
         };

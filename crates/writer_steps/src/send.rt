@@ -8,7 +8,7 @@ use numbers::answers::earlier;
 use rtps_reader_proxy::ReaderProxy;
 use writer_send_buffer::WriterSendBuffer;
 
-// The number sent, whether as data (else as a gap), and the reader's head as it then is.
+// The number sent, whether as data (else as a gap), and the reader's proxy as it then is.
 #[repr(C)]
 pub struct Sent {
     pub answer: Answer,
@@ -41,6 +41,7 @@ pub fn send_first(flow: WriterSendBuffer, proxy: ReaderProxy, unsent: &mut [u64]
     let n = number.rank();
     let marked = proxy.mark_change_sent(unsent, number);
     let after = marked.proxy;
+    let answer = Answer::done();
     Sent {
         answer,
         number,

@@ -1,8 +1,7 @@
 // The frontier stored, as the last call of a step.
 ghost use mathlib.Core.Path.{_≡_};
-ghost use Rattle.writer_steps.specs.Readers.{storedOf, withFlow, after, settledOf};
+ghost use Rattle.writer_steps.specs.Readers.{storedOf, besideFlow, after, settledOf};
 use numbers::Answer;
-use numbers::Rows;
 use numbers::answers::earlier;
 use reader_list::Front;
 use reader_list::ReaderHead;
@@ -20,7 +19,7 @@ pub struct Settled {
 }
 
 // The frontier that a list was asked for, stored.
-pub fn stored(front: Front, flow: WriterSendBuffer) -> Woken
+pub(crate) fn stored(front: Front, flow: WriterSendBuffer) -> Woken
     ensures { λ r. ⌜ r ≡ storedOf front flow ⌝ }
 {
     let answer = front.answer;
@@ -35,15 +34,13 @@ pub fn stored(front: Front, flow: WriterSendBuffer) -> Woken
 
 // Whether the flow record is coherent is asked with the rest.
 pub fn with_flow(answer: Answer, flow: WriterSendBuffer) -> Answer
-    ensures { λ r. ⌜ r ≡ withFlow answer flow ⌝ }
+    ensures { λ r. ⌜ r ≡ besideFlow answer flow ⌝ }
 {
-    let mut rows = Rows::none();
-    rows.incoherent = !flow.is_coherent();
-    earlier(answer, Answer::of(rows))
+    earlier(answer, Answer::coherence(flow.is_coherent()))
 }
 
 // After a call that is answered so: where it is refused, nothing is stored.
-pub fn after(answer: Answer, woken: Woken, flow: WriterSendBuffer) -> Woken
+pub(crate) fn after(answer: Answer, woken: Woken, flow: WriterSendBuffer) -> Woken
     ensures { λ r. ⌜ r ≡ after answer woken flow ⌝ }
 {
     if answer.number != 0 {

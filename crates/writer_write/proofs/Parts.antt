@@ -19,10 +19,10 @@ use Rattle.rtps_reader_proxy.specs.declared.proxy.ReaderProxy.{ReaderProxy}
 use Rattle.rtps_reader_proxy.specs.Unsent.{countUnsent}
 use Rattle.writer_send_buffer.specs.declared.flow.Numbered.{Numbered}
 use Rattle.writer_write.specs.declared.sound.SoundReader.{SoundReader}
-use Rattle.writer_write.specs.Write.{Kept}
+use Rattle.writer_write.specs.Write.{UnsentPart}
 use Rattle.writer_write.specs.Places.{strideOf, ownOf, readerAt}
-use Rattle.writer_write.specs.Sound.{isSound}
-use Rattle.writer_write.specs.Turns.{soundAt, runWith, withNumber, putOne, putAt}
+use Rattle.writer_write.specs.Sound.{placeCoherent}
+use Rattle.writer_write.specs.Turns.{coherentAt, runWith, withNumber, putOne, putAt}
 
 -- it is inside its stretch, and within the cap
 pub own-in : (s : ℕ) (h : ReaderProxy) → ownOf s h ≤ s
@@ -56,7 +56,7 @@ joined-long n c a = go (ltb c (length a) && ltb (getD a (c - 1) 0) n)
     go true = length-set a c n
     go false = in-room-long n c a
 
-pub put-long : (m : Numbered) (k : Kept) → length (putOne m k .unsent) ≡ length (k .unsent)
+pub put-long : (m : Numbered) (k : UnsentPart) → length (putOne m k .unsent) ≡ length (k .unsent)
 put-long m k = go (isDone (m .answer))
   where
     go : (t : Bool) → length (cond t (withNumber (rankOf (m .number)) k) k .unsent) ≡ length (k .unsent)
@@ -92,7 +92,7 @@ module _ (h : ReaderProxy) (u : List ℕ) (i n : ℕ) where
   abbrev own : ℕ
   own = ownOf (strideOf n u) h
 
-  abbrev kept : Kept
+  abbrev kept : UnsentPart
   kept = readerAt (strideOf n u) h (drop start u)
 
   -- the end less the start
@@ -100,17 +100,17 @@ module _ (h : ReaderProxy) (u : List ℕ) (i n : ℕ) where
   span-is z e = add-sub-cancel-left start z ∙ e
 
   -- it looked at it
-  pub sound-is : (t : Bool) (z : ℕ) → z ≡ own → (ok : Bool) → ok ≡ isSound h (take (start + z - start) (drop start u))
-      → _≡_ {A = SoundReader} (record { sound = t && (leb n 64 && ok); proxy = h }) (soundAt t h u i n .result)
+  pub sound-is : (t : Bool) (z : ℕ) → z ≡ own → (ok : Bool) → ok ≡ placeCoherent h (take (start + z - start) (drop start u))
+      → _≡_ {A = SoundReader} (record { sound = t && (leb n 64 && ok); proxy = h }) (coherentAt t h u i n .result)
   sound-is t z ez ok e =
-      ap (λ (b : Bool). record { sound = t && (leb n 64 && b); proxy = h }) (e ∙ ap (λ (c : ℕ). isSound h (take c (drop start u))) (span-is z ez))
+      ap (λ (b : Bool). record { sound = t && (leb n 64 && b); proxy = h }) (e ∙ ap (λ (c : ℕ). placeCoherent h (take c (drop start u))) (span-is z ez))
 
   -- nothing was given, and nothing is put
   pub put-none : (m : Numbered) → (m .answer .number ≡ 0 → ⊥) → Gives1 (record { numbered = m; proxy = h }) u (putAt m h u i n)
   put-none m not-0 =
       record {
-        result = ap (λ (k : Kept). record { numbered = m; proxy = k .proxy }) (sym same);
-        first = sym (ap (λ (k : Kept). take start u ++ (k .unsent ++ drop own (drop start u))) same ∙ ap (λ (l : List ℕ). take start u ++ l) (take-append-drop own (drop start u)) ∙ take-append-drop start u);
+        result = ap (λ (k : UnsentPart). record { numbered = m; proxy = k .proxy }) (sym same);
+        first = sym (ap (λ (k : UnsentPart). take start u ++ (k .unsent ++ drop own (drop start u))) same ∙ ap (λ (l : List ℕ). take start u ++ l) (take-append-drop own (drop start u)) ∙ take-append-drop start u);
       }
     where
       same : putOne m kept ≡ kept
@@ -122,8 +122,8 @@ module _ (h : ReaderProxy) (u : List ℕ) (i n : ℕ) where
       → Gives1 (record { numbered = m; proxy = countUnsent c h }) (take start u ++ (w ++ drop (start + z - start) (drop start u))) (putAt m h u i n)
   put-done m is-0 r er z ez c w g =
       record {
-        result = ap (λ (k : ℕ). record { numbered = m; proxy = countUnsent k h }) (put .result) ∙ ap (λ (k : Kept). record { numbered = m; proxy = k .proxy }) (sym same);
-        first = λ j. take start u ++ ((put .first ∙ sym (ap (λ (k : Kept). k .unsent) same)) j ++ drop (span-is z ez j) (drop start u));
+        result = ap (λ (k : ℕ). record { numbered = m; proxy = countUnsent k h }) (put .result) ∙ ap (λ (k : UnsentPart). record { numbered = m; proxy = k .proxy }) (sym same);
+        first = λ j. take start u ++ ((put .first ∙ sym (ap (λ (k : UnsentPart). k .unsent) same)) j ++ drop (span-is z ez j) (drop start u));
       }
     where
       same : putOne m kept ≡ withNumber (rankOf (m .number)) kept

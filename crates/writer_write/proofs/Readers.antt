@@ -10,8 +10,9 @@ use lib.ListN.{length}
 use borrow.Author.Tests.{leb-true, le-leb}
 use Rattle.sets.specs.Sets.{insert, largest}
 use Rattle.sets.proofs.Bools.{and-left, and-right, and-both, or-right}
-use Rattle.numbers.specs.Number.{topNumber, rankOf, isSample}
-use Rattle.numbers.specs.Refusals.{row, rowsOf, isDone, done, unless}
+use Rattle.numbers.specs.Capacities.{topNumber}
+use Rattle.numbers.specs.Number.{rankOf, isSample}
+use Rattle.numbers.specs.Refusals.{row, isDone, done, unless}
 use Rattle.numbers.specs.Promise.{Left1}
 use Rattle.numbers.specs.declared.sequence_number.SequenceNumber.{SequenceNumber}
 use Rattle.rising.specs.Runs.{roomOf}
@@ -19,17 +20,17 @@ use Rattle.rising.proofs.Meaning.{room-take, room-length}
 use Rattle.rtps_reader_proxy.specs.declared.proxy.ReaderProxy.{ReaderProxy}
 use Rattle.rtps_reader_proxy.specs.declared.proxy.Changed.{Changed}
 use Rattle.rtps_reader_proxy.specs.Reader.{Reader, notified}
-use Rattle.rtps_reader_proxy.specs.Record.{roomFor, unsentOk, headOf, unsentRoom}
+use Rattle.rtps_reader_proxy.specs.Record.{roomFor, unsentCoherent, proxyOf, unsentRoom}
 use Rattle.rtps_reader_proxy.specs.Unsent.{countUnsent}
-use Rattle.reader_record.specs.Whole.{isWhole, roomsOk, form, Valid}
+use Rattle.reader_record.specs.Whole.{roomsWhole, roomsCoherent, recordForm, Valid}
 use Rattle.reader_record.proofs.Whole.{form-coherent}
 use Rattle.reader_record.proofs.Kept.{notified-valid}
 use Rattle.writer_send_buffer.specs.declared.flow.WriterSendBuffer.{WriterSendBuffer}
 use Rattle.writer_send_buffer.specs.Samples.{admitOf}
 use Rattle.writer_write.specs.Write.{told, toldAll, Written}
-use Rattle.writer_write.specs.Sound.{areSound}
+use Rattle.writer_write.specs.Sound.{placesCoherent}
 use Rattle.writer_write.specs.InPlace.{writeOf}
-use Rattle.writer_write.specs.Standing.{standing, roomy, allOk, keptOf}
+use Rattle.writer_write.specs.Standing.{standing, roomy, allUnsentCoherent, unsentPartOf}
 use Rattle.writer_write.proofs.Tells.{Given}
 use Rattle.writer_write.proofs.Writes.{is-given}
 use Rattle.writer_write.proofs.Standing.{standing-sound, whole-after}
@@ -40,8 +41,8 @@ AllValid (r ∷ rs) = Valid r × AllValid rs
 
 -- one reader
 module _ (r : Reader) (v : Valid r) where
-  reader-ok : unsentOk (headOf r) (unsentRoom r) ≡ true
-  reader-ok = and-left (unsentOk (headOf r) (unsentRoom r)) _ (and-right (isWhole (form r)) (roomsOk (form r)) (form-coherent r v))
+  reader-ok : unsentCoherent (proxyOf r) (unsentRoom r) ≡ true
+  reader-ok = and-left (unsentCoherent (proxyOf r) (unsentRoom r)) _ (and-right (roomsWhole (recordForm r)) (roomsCoherent (recordForm r)) (form-coherent r v))
 
   long : length (unsentRoom r) ≡ r .cap
   long = room-length (r .cap) (r .unsent) (v .unsent-few)
@@ -49,24 +50,24 @@ module _ (r : Reader) (v : Valid r) where
   fits : roomFor 1 (r .cap) (length (r .unsent)) (unsentRoom r) ≡ true
   fits = or-right (leb 1 (length (unsentRoom r) - length (r .unsent))) (leb (r .cap) (length (unsentRoom r))) (le-leb (r .cap) (length (unsentRoom r)) (omega (arith, long)))
 
-  pub told-reader : (n : SequenceNumber) → isSample n ≡ true → told n (keptOf r) ≡ keptOf (notified (rankOf n) r)
+  pub told-reader : (n : SequenceNumber) → isSample n ≡ true → told n (unsentPartOf r) ≡ unsentPartOf (notified (rankOf n) r)
   told-reader n sample =
       ap (λ (o : Left1 Changed (List ℕ)). record { proxy = o .result .proxy; unsent = o .first })
-      (λ j. leaves (and-both (roomFor 1 (r .cap) (length (r .unsent)) (unsentRoom r)) (unsentOk (headOf r) (unsentRoom r)) fits reader-ok j) (sample j) (long j) (room-take (r .cap) (r .unsent) j))
+      (λ j. leaves (and-both (roomFor 1 (r .cap) (length (r .unsent)) (unsentRoom r)) (unsentCoherent (proxyOf r) (unsentRoom r)) fits reader-ok j) (sample j) (long j) (room-take (r .cap) (r .unsent) j))
     where
       leaves : Bool → Bool → ℕ → List ℕ → Left1 Changed (List ℕ)
       leaves t v c l =
-          unless (rowsOf (row 1 (not t) ∷ row 2 (not v) ∷ []))
-          (λ a. record { result = record { answer = a; proxy = headOf r }; first = unsentRoom r })
-          (record { result = record { answer = done; proxy = countUnsent (length (largest (r .cap) (insert (rankOf n) l))) (headOf r) }; first = roomOf c (largest (r .cap) (insert (rankOf n) l)) })
+          unless (row 1 refl (not t) ∷ row 2 refl (not v) ∷ [])
+          (λ a. record { result = record { answer = a; proxy = proxyOf r }; first = unsentRoom r })
+          (record { result = record { answer = done; proxy = countUnsent (length (largest (r .cap) (insert (rankOf n) l))) (proxyOf r) }; first = roomOf c (largest (r .cap) (insert (rankOf n) l)) })
 
 -- all of them
-all-ok : (rs : List Reader) → AllValid rs → allOk (map keptOf rs) ≡ true
+all-ok : (rs : List Reader) → AllValid rs → allUnsentCoherent (map unsentPartOf rs) ≡ true
 all-ok [] v = refl
-all-ok (r ∷ rs) v = and-both (unsentOk (headOf r) (unsentRoom r)) (allOk (map keptOf rs)) (reader-ok r (v .0)) (all-ok rs (v .1))
+all-ok (r ∷ rs) v = and-both (unsentCoherent (proxyOf r) (unsentRoom r)) (allUnsentCoherent (map unsentPartOf rs)) (reader-ok r (v .0)) (all-ok rs (v .1))
 
 module _ (n : SequenceNumber) (sample : isSample n ≡ true) where
-  all-told : (rs : List Reader) → AllValid rs → map (told n) (map keptOf rs) ≡ map keptOf (map (notified (rankOf n)) rs)
+  all-told : (rs : List Reader) → AllValid rs → map (told n) (map unsentPartOf rs) ≡ map unsentPartOf (map (notified (rankOf n)) rs)
   all-told [] v = refl
   all-told (r ∷ rs) v = λ j. told-reader r (v .0) n sample j ∷ all-told rs (v .1) j
 
@@ -78,11 +79,11 @@ module _ (n : SequenceNumber) (sample : isSample n ≡ true) where
   )
 
 -- THE WRITE
-module _ (hs : List ReaderProxy) (u : List ℕ) (room : roomy hs u ≡ true) (rs : List Reader) (stand : standing hs u ≡ map keptOf rs) (valid : AllValid rs) where
-  ok : allOk (standing hs u) ≡ true
-  ok = ap allOk stand ∙ all-ok rs valid
+module _ (hs : List ReaderProxy) (u : List ℕ) (room : roomy hs u ≡ true) (rs : List Reader) (stand : standing hs u ≡ map unsentPartOf rs) (valid : AllValid rs) where
+  ok : allUnsentCoherent (standing hs u) ≡ true
+  ok = ap allUnsentCoherent stand ∙ all-ok rs valid
 
-  pub readers-sound : areSound hs u ≡ true
+  pub readers-sound : placesCoherent hs u ≡ true
   readers-sound = standing-sound hs u room ok
 
   module _ (f : WriterSendBuffer) (store lens payload : List ℕ) (opted : Bool) where
@@ -90,11 +91,11 @@ module _ (hs : List ReaderProxy) (u : List ℕ) (room : roomy hs u ≡ true) (rs
     numbered-is = ap (λ (w : Written). w .writer .result) (whole-after hs u room ok f store lens payload opted)
 
     module _ (d : isDone (writeOf f store lens payload opted hs u .result .answer) ≡ true) where
-      pub readers-after : standing (writeOf f store lens payload opted hs u .proxies) (writeOf f store lens payload opted hs u .unsent) ≡ map keptOf (map (notified (rankOf (writeOf f store lens payload opted hs u .result .number))) rs)
+      pub readers-after : standing (writeOf f store lens payload opted hs u .proxies) (writeOf f store lens payload opted hs u .unsent) ≡ map unsentPartOf (map (notified (rankOf (writeOf f store lens payload opted hs u .result .number))) rs)
       readers-after =
           ap (λ (w : Written). w .readers) (whole-after hs u room ok f store lens payload opted)
           ∙ (λ j. toldAll (sym numbered-is j) (stand j))
-          ∙ ap (λ (t : Bool). cond t (map (told n) (map keptOf rs)) (map keptOf rs)) d
+          ∙ ap (λ (t : Bool). cond t (map (told n) (map unsentPartOf rs)) (map unsentPartOf rs)) d
           ∙ all-told n given rs valid
         where
           n : SequenceNumber

@@ -12,62 +12,62 @@ use lib.Seq.{length-take-le, drop-at}
 use borrow.Author.Tests.{leb-true}
 use Rattle.sets.proofs.Bools.{and-left, and-right, and-both}
 use Rattle.rtps_reader_proxy.specs.declared.proxy.ReaderProxy.{ReaderProxy}
-use Rattle.rtps_reader_proxy.specs.Record.{roomFor, unsentOk}
+use Rattle.rtps_reader_proxy.specs.Record.{roomFor, unsentCoherent}
 use Rattle.writer_send_buffer.specs.declared.flow.WriterSendBuffer.{WriterSendBuffer}
 use Rattle.writer_send_buffer.specs.declared.flow.Numbered.{Numbered}
 use Rattle.writer_send_buffer.specs.Samples.{admitOf}
-use Rattle.writer_write.specs.Write.{Kept, writeStep}
-use Rattle.writer_write.specs.Places.{isFree, strideOf, readerAt, readersFrom, readersIn, headsOf, laidFrom}
-use Rattle.writer_write.specs.Sound.{isSound, soundFrom, areSound}
-use Rattle.writer_write.specs.InPlace.{LeftByWrite, sideBySide, unsound, writeOf}
-use Rattle.writer_write.specs.Standing.{Place, vacant, keeps, placeAt, placesFrom, places, readersAt, onReader, standing, capsFit, roomy, allOk, standsAs}
+use Rattle.writer_write.specs.Write.{UnsentPart, writeStep}
+use Rattle.writer_write.specs.Places.{isFree, strideOf, readerAt, readersFrom, readersIn, proxiesOf, laidFrom}
+use Rattle.writer_write.specs.Sound.{placeCoherent, placesCoherentFrom, placesCoherent}
+use Rattle.writer_write.specs.InPlace.{LeftByWrite, sideBySide, writeIncoherent, writeOf}
+use Rattle.writer_write.specs.Standing.{ReaderPlace, vacant, keeps, placeAt, placesFrom, places, readersAt, onReader, standing, capsFit, roomy, allUnsentCoherent, standsAs}
 use Rattle.writer_write.proofs.Tells.{toldOne, Given, all-ones}
 use Rattle.writer_write.proofs.Writes.{is-given}
 use Rattle.writer_write.proofs.WholeRooms.{cap-stays, stretch, vacant-stretch, vacant-after, part-sound, kept-long, kept-after}
 
-readers-told : (g : Kept → Kept) (ps : List Place) → readersAt (map (onReader g) ps) ≡ map g (readersAt ps)
+readers-told : (g : UnsentPart → UnsentPart) (ps : List ReaderPlace) → readersAt (map (onReader g) ps) ≡ map g (readersAt ps)
 readers-told g [] = refl
 readers-told g (vacant h w ∷ ps) = readers-told g ps
-readers-told g (keeps k w ∷ ps) = ap (λ (l : List Kept). g k ∷ l) (readers-told g ps)
+readers-told g (keeps k w ∷ ps) = ap (λ (l : List UnsentPart). g k ∷ l) (readers-told g ps)
 
 -- the first place, by whether it is free
 module _ (s : ℕ) (h : ReaderProxy) (v : List ℕ) where
-  abbrev kept : Kept
+  abbrev kept : UnsentPart
   kept = record { proxy = h; unsent = take (h .«unsent_cap») (take s v) }
 
-  abbrev place-by : Bool → Place
+  abbrev place-by : Bool → ReaderPlace
   place-by t = cond t (vacant h (take s v)) (keeps kept (drop (h .«unsent_cap») (take s v)))
 
 -- COHERENT
-sound-from : (n s : ℕ) → leb n 64 ≡ true → (hs : List ReaderProxy) (v : List ℕ) → capsFit s hs ≡ true → allOk (readersAt (placesFrom s hs v)) ≡ true → length hs * s ≤ length v → soundFrom n s hs v ≡ true
+sound-from : (n s : ℕ) → leb n 64 ≡ true → (hs : List ReaderProxy) (v : List ℕ) → capsFit s hs ≡ true → allUnsentCoherent (readersAt (placesFrom s hs v)) ≡ true → length hs * s ≤ length v → placesCoherentFrom n s hs v ≡ true
 sound-from n s few [] v fit ok f = refl
 sound-from n s few (h ∷ hs) v fit ok f =
     go (isFree h) refl ok (λ e. sound-from n s few hs (drop s v) (and-right (leb (h .«unsent_cap») s) (capsFit s hs) fit) e (omega (arith, f, suc-mul (length hs) s, length-drop s v)))
   where
-    go : (t : Bool) → isFree h ≡ t → allOk (readersAt (place-by s h v t ∷ placesFrom s hs (drop s v))) ≡ true → (allOk (readersAt (placesFrom s hs (drop s v))) ≡ true → soundFrom n s hs (drop s v) ≡ true)
-        → soundFrom n s (h ∷ hs) v ≡ true
+    go : (t : Bool) → isFree h ≡ t → allUnsentCoherent (readersAt (place-by s h v t ∷ placesFrom s hs (drop s v))) ≡ true → (allUnsentCoherent (readersAt (placesFrom s hs (drop s v))) ≡ true → placesCoherentFrom n s hs (drop s v) ≡ true)
+        → placesCoherentFrom n s (h ∷ hs) v ≡ true
     go true free ok rest =
-        and-both (leb n 64 && isSound h (readerAt s h v .unsent)) (soundFrom n s hs (drop s v))
-        (and-both (leb n 64) (isSound h (readerAt s h v .unsent)) few (ap (λ (t : Bool). t || (roomFor 1 (h .«unsent_cap») (h .«unsent_count») (readerAt s h v .unsent) && unsentOk h (readerAt s h v .unsent))) free)) (rest ok)
+        and-both (leb n 64 && placeCoherent h (readerAt s h v .unsent)) (placesCoherentFrom n s hs (drop s v))
+        (and-both (leb n 64) (placeCoherent h (readerAt s h v .unsent)) few (ap (λ (t : Bool). t || (roomFor 1 (h .«unsent_cap») (h .«unsent_count») (readerAt s h v .unsent) && unsentCoherent h (readerAt s h v .unsent))) free)) (rest ok)
     go false q ok rest =
-        and-both (leb n 64 && isSound h (readerAt s h v .unsent)) (soundFrom n s hs (drop s v))
-        (and-both (leb n 64) (isSound h (readerAt s h v .unsent)) few
-        (part-sound s h v (omega (arith, f, suc-mul (length hs) s)) (leb-true (h .«unsent_cap») s (and-left (leb (h .«unsent_cap») s) (capsFit s hs) fit)) (and-left (unsentOk h (kept s h v .unsent)) (allOk (readersAt (placesFrom s hs (drop s v)))) ok)))
-        (rest (and-right (unsentOk h (kept s h v .unsent)) (allOk (readersAt (placesFrom s hs (drop s v)))) ok))
+        and-both (leb n 64 && placeCoherent h (readerAt s h v .unsent)) (placesCoherentFrom n s hs (drop s v))
+        (and-both (leb n 64) (placeCoherent h (readerAt s h v .unsent)) few
+        (part-sound s h v (omega (arith, f, suc-mul (length hs) s)) (leb-true (h .«unsent_cap») s (and-left (leb (h .«unsent_cap») s) (capsFit s hs) fit)) (and-left (unsentCoherent h (kept s h v .unsent)) (allUnsentCoherent (readersAt (placesFrom s hs (drop s v)))) ok)))
+        (rest (and-right (unsentCoherent h (kept s h v .unsent)) (allUnsentCoherent (readersAt (placesFrom s hs (drop s v)))) ok))
 
 -- AFTERWARDS, where m is answered
 module _ (m : Numbered) (given : Given m) (s : ℕ) where
-  abbrev afters : List ReaderProxy → List ℕ → List Kept
+  abbrev afters : List ReaderProxy → List ℕ → List UnsentPart
   afters hs v = map (toldOne m) (readersFrom s hs v)
 
   -- what the list and the room are then, from a place on; and what is known of them
   pub record After (hs : List ReaderProxy) (v : List ℕ) : Type 0 where
-    pub are : placesFrom s (headsOf (afters hs v)) (laidFrom s (afters hs v) v) ≡ map (onReader (toldOne m)) (placesFrom s hs v)
-    pub many : length (headsOf (afters hs v)) ≡ length hs
+    pub are : placesFrom s (proxiesOf (afters hs v)) (laidFrom s (afters hs v) v) ≡ map (onReader (toldOne m)) (placesFrom s hs v)
+    pub many : length (proxiesOf (afters hs v)) ≡ length hs
     pub long : length (laidFrom s (afters hs v) v) ≡ length v
-    pub fit : capsFit s (headsOf (afters hs v)) ≡ true
+    pub fit : capsFit s (proxiesOf (afters hs v)) ≡ true
 
-  after-from : (hs : List ReaderProxy) (v : List ℕ) → capsFit s hs ≡ true → allOk (readersAt (placesFrom s hs v)) ≡ true → length hs * s ≤ length v → After hs v
+  after-from : (hs : List ReaderProxy) (v : List ℕ) → capsFit s hs ≡ true → allUnsentCoherent (readersAt (placesFrom s hs v)) ≡ true → length hs * s ≤ length v → After hs v
   after-from [] v fit ok f = record { are = refl; many = refl; long = refl; fit = refl }
   after-from (h ∷ hs) v fit ok f =
       go (isFree h) refl ok (λ e. after-from hs (drop s v) (and-right (leb (h .«unsent_cap») s) (capsFit s hs) fit) e (omega (arith, f, suc-mul (length hs) s, length-drop s v)))
@@ -78,25 +78,25 @@ module _ (m : Numbered) (given : Given m) (s : ℕ) where
       cap-fits : leb (h .«unsent_cap») s ≡ true
       cap-fits = and-left (leb (h .«unsent_cap») s) (capsFit s hs) fit
 
-      rest : List Kept
+      rest : List UnsentPart
       rest = afters hs (drop s v)
 
       room : List ℕ
       room = laidFrom s rest (drop s v)
 
       -- the first of all the places then is what p is then, and the room is as long as it was
-      First : Place → Type 0
+      First : ReaderPlace → Type 0
       First p =
-          (placesFrom s (headsOf (afters (h ∷ hs) v)) (laidFrom s (afters (h ∷ hs) v) v) ≡ onReader (toldOne m) p ∷ map (onReader (toldOne m)) (placesFrom s hs (drop s v)))
+          (placesFrom s (proxiesOf (afters (h ∷ hs) v)) (laidFrom s (afters (h ∷ hs) v) v) ≡ onReader (toldOne m) p ∷ map (onReader (toldOne m)) (placesFrom s hs (drop s v)))
           × (length (laidFrom s (afters (h ∷ hs) v) v) ≡ length v)
 
-      then : (p : Place) → placeAt s (toldOne m (readerAt s h v) .proxy) (stretch s h v here m ++ room) ≡ onReader (toldOne m) p → length (stretch s h v here m) ≡ s → After hs (drop s v) → First p
+      then : (p : ReaderPlace) → placeAt s (toldOne m (readerAt s h v) .proxy) (stretch s h v here m ++ room) ≡ onReader (toldOne m) p → length (stretch s h v here m) ≡ s → After hs (drop s v) → First p
       then p e l r = (
-        (λ j. e j ∷ placesFrom s (headsOf rest) (drop-at (stretch s h v here m) room s l j)) ∙ ap (λ (ps : List Place). onReader (toldOne m) p ∷ ps) (r .are),
+        (λ j. e j ∷ placesFrom s (proxiesOf rest) (drop-at (stretch s h v here m) room s l j)) ∙ ap (λ (ps : List ReaderPlace). onReader (toldOne m) p ∷ ps) (r .are),
         length-append (stretch s h v here m) room ∙ omega (arith, l, r .long, length-drop s v, here),
       )
 
-      go : (t : Bool) → isFree h ≡ t → allOk (readersAt (place-by s h v t ∷ placesFrom s hs (drop s v))) ≡ true → (allOk (readersAt (placesFrom s hs (drop s v))) ≡ true → After hs (drop s v)) → After (h ∷ hs) v
+      go : (t : Bool) → isFree h ≡ t → allUnsentCoherent (readersAt (place-by s h v t ∷ placesFrom s hs (drop s v))) ≡ true → (allUnsentCoherent (readersAt (placesFrom s hs (drop s v))) ≡ true → After hs (drop s v)) → After (h ∷ hs) v
       go t q ok tail =
           let r = tail (tail-ok t ok) in
           let w = by t q ok r in
@@ -104,22 +104,22 @@ module _ (m : Numbered) (given : Given m) (s : ℕ) where
             are = w .0 ∙ ap (λ (b : Bool). onReader (toldOne m) (place-by s h v b) ∷ map (onReader (toldOne m)) (placesFrom s hs (drop s v))) (sym q);
             many = ap suc (r .many);
             long = w .1;
-            fit = and-both (leb (toldOne m (readerAt s h v) .proxy .«unsent_cap») s) (capsFit s (headsOf rest)) (ap (λ (c : ℕ). leb c s) (cap-stays m (readerAt s h v)) ∙ cap-fits) (r .fit);
+            fit = and-both (leb (toldOne m (readerAt s h v) .proxy .«unsent_cap») s) (capsFit s (proxiesOf rest)) (ap (λ (c : ℕ). leb c s) (cap-stays m (readerAt s h v)) ∙ cap-fits) (r .fit);
           }
         where
-          tail-ok : (t : Bool) → allOk (readersAt (place-by s h v t ∷ placesFrom s hs (drop s v))) ≡ true → allOk (readersAt (placesFrom s hs (drop s v))) ≡ true
+          tail-ok : (t : Bool) → allUnsentCoherent (readersAt (place-by s h v t ∷ placesFrom s hs (drop s v))) ≡ true → allUnsentCoherent (readersAt (placesFrom s hs (drop s v))) ≡ true
           tail-ok true e = e
-          tail-ok false e = and-right (unsentOk h (kept s h v .unsent)) (allOk (readersAt (placesFrom s hs (drop s v)))) e
+          tail-ok false e = and-right (unsentCoherent h (kept s h v .unsent)) (allUnsentCoherent (readersAt (placesFrom s hs (drop s v)))) e
 
-          by : (t : Bool) → isFree h ≡ t → allOk (readersAt (place-by s h v t ∷ placesFrom s hs (drop s v))) ≡ true → After hs (drop s v) → First (place-by s h v t)
+          by : (t : Bool) → isFree h ≡ t → allUnsentCoherent (readersAt (place-by s h v t ∷ placesFrom s hs (drop s v))) ≡ true → After hs (drop s v) → First (place-by s h v t)
           by true free e r = then (vacant h (take s v)) (vacant-after s h v here free m room) (ap length (vacant-stretch s h v here free m) ∙ length-take-le s v here) r
           by false q e r =
               let fits = leb-true (h .«unsent_cap») s cap-fits in
-              let o = and-left (unsentOk h (kept s h v .unsent)) (allOk (readersAt (placesFrom s hs (drop s v)))) e in
+              let o = and-left (unsentCoherent h (kept s h v .unsent)) (allUnsentCoherent (readersAt (placesFrom s hs (drop s v)))) e in
               then (keeps (kept s h v) (drop (h .«unsent_cap») (take s v))) (kept-after s h v here fits o m given room) (kept-long s h v here fits o m given) r
 
 -- THE WRITE
-module _ (hs : List ReaderProxy) (u : List ℕ) (room : roomy hs u ≡ true) (ok : allOk (standing hs u) ≡ true) where
+module _ (hs : List ReaderProxy) (u : List ℕ) (room : roomy hs u ≡ true) (ok : allUnsentCoherent (standing hs u) ≡ true) where
   abbrev s : ℕ
   s = strideOf (length hs) u
 
@@ -127,7 +127,7 @@ module _ (hs : List ReaderProxy) (u : List ℕ) (room : roomy hs u ≡ true) (ok
   caps = and-right (leb (length hs) 64) (capsFit (strideOf (length hs) u) hs) room
 
   -- they are coherent
-  pub standing-sound : areSound hs u ≡ true
+  pub standing-sound : placesCoherent hs u ≡ true
   standing-sound =
       sound-from (length hs) (strideOf (length hs) u) (and-left (leb (length hs) 64) (capsFit (strideOf (length hs) u) hs) room) hs u caps ok (mul-div-le (length u) (length hs))
 
@@ -135,16 +135,16 @@ module _ (hs : List ReaderProxy) (u : List ℕ) (room : roomy hs u ≡ true) (ok
     abbrev m : Numbered
     m = admitOf f store lens payload opted .result
 
-    abbrev laid : List Kept → LeftByWrite
+    abbrev laid : List UnsentPart → LeftByWrite
     laid ks = sideBySide (record { writer = admitOf f store lens payload opted; readers = ks }) s u
 
-    abbrev ones : List Kept
+    abbrev ones : List UnsentPart
     ones = map (toldOne m) (readersIn hs u)
 
     -- so the sample is admitted as it is, and each is told
     done-so : writeOf f store lens payload opted hs u ≡ laid ones
     done-so =
-        ap (λ (t : Bool). sideBySide (cond t (writeStep f store lens payload opted (readersIn hs u)) (record { writer = unsound f store lens; readers = readersIn hs u })) s u) standing-sound
+        ap (λ (t : Bool). sideBySide (cond t (writeStep f store lens payload opted (readersIn hs u)) (record { writer = writeIncoherent f store lens; readers = readersIn hs u })) s u) standing-sound
         ∙ ap laid (sym (all-ones m (readersIn hs u)))
 
     after : After m (is-given f store lens payload opted) s hs u
@@ -165,9 +165,9 @@ module _ (hs : List ReaderProxy) (u : List ℕ) (room : roomy hs u ≡ true) (ok
     pub whole-after : standsAs (writeOf f store lens payload opted hs u) ≡ writeStep f store lens payload opted (standing hs u)
     whole-after =
         ap standsAs done-so
-        ∙ ap (λ (ps : List Place). record { writer = admitOf f store lens payload opted; readers = readersAt ps })
+        ∙ ap (λ (ps : List ReaderPlace). record { writer = admitOf f store lens payload opted; readers = readersAt ps })
         (ap (λ (z : ℕ). placesFrom z (laid ones .proxies) (laid ones .unsent)) same-stride ∙ after .are)
-        ∙ ap (λ (ks : List Kept). record { writer = admitOf f store lens payload opted; readers = ks }) (readers-told (toldOne m) (places hs u) ∙ all-ones m (standing hs u))
+        ∙ ap (λ (ks : List UnsentPart). record { writer = admitOf f store lens payload opted; readers = ks }) (readers-told (toldOne m) (places hs u) ∙ all-ones m (standing hs u))
 
     -- and there is room for them again
     pub roomy-after : roomy (writeOf f store lens payload opted hs u .proxies) (writeOf f store lens payload opted hs u .unsent) ≡ true

@@ -12,15 +12,15 @@ use Rattle.writer_send_buffer.specs.declared.flow.WriterSendBuffer.{WriterSendB
 use Rattle.writer_send_buffer.specs.declared.flow.Numbered.{Numbered}
 use Rattle.writer_send_buffer.specs.Samples.{writeRows}
 use Rattle.writer_write.specs.Write.{told, toldAll, Written, writeStep}
-use Rattle.writer_write.specs.Places.{strideOf, ownOf, readersFrom, readersIn, headsOf, laidFrom}
-use Rattle.writer_write.specs.Sound.{areSound}
-use Rattle.writer_write.specs.InPlace.{LeftByWrite, sideBySide, unsound, writeOf}
+use Rattle.writer_write.specs.Places.{strideOf, ownOf, readersFrom, readersIn, proxiesOf, laidFrom}
+use Rattle.writer_write.specs.Sound.{placesCoherent}
+use Rattle.writer_write.specs.InPlace.{LeftByWrite, sideBySide, writeIncoherent, writeOf}
 use Rattle.writer_write.proofs.Parts.{own-in}
 use Rattle.writer_write.proofs.Writes.{by-rows}
 
 -- the readers laid where they lay
 module _ (s : ℕ) where
-  heads-back : (hs : List ReaderProxy) (v : List ℕ) → headsOf (readersFrom s hs v) ≡ hs
+  heads-back : (hs : List ReaderProxy) (v : List ℕ) → proxiesOf (readersFrom s hs v) ≡ hs
   heads-back [] v = refl
   heads-back (h ∷ hs) v = ap (λ (l : List ReaderProxy). h ∷ l) (heads-back hs (drop s v))
 
@@ -49,10 +49,10 @@ module _ (f : WriterSendBuffer) (store lens payload : List ℕ) (opted : Bool) (
   same-readers r = λ j. record { result = r; flow = f; store = store; lens = lens; proxies = heads-back (strideOf (length hs) u) hs u j; unsent = room-back (strideOf (length hs) u) hs u j }
 
   pub refused-unchanged : isDone (writeOf f store lens payload opted hs u .result .answer) ≡ false → writeOf f store lens payload opted hs u ≡ unchanged (writeOf f store lens payload opted hs u .result)
-  refused-unchanged = go (areSound hs u)
+  refused-unchanged = go (placesCoherent hs u)
     where
       by-test : Bool → Written
-      by-test t = cond t (writeStep f store lens payload opted (readersIn hs u)) (record { writer = unsound f store lens; readers = readersIn hs u })
+      by-test t = cond t (writeStep f store lens payload opted (readersIn hs u)) (record { writer = writeIncoherent f store lens; readers = readersIn hs u })
 
       step-by : Bool → Written
       step-by d = record { writer = by-rows f store lens payload opted d; readers = toldAll (by-rows f store lens payload opted d .result) (readersIn hs u) }

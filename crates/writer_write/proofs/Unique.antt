@@ -11,7 +11,7 @@ use Rattle.writer_send_buffer.specs.declared.flow.Numbered.{Numbered}
 use Rattle.writer_send_buffer.specs.declared.samples.Admitted.{Admitted}
 use Rattle.writer_send_buffer.specs.Samples.{handed}
 use Rattle.writer_write.specs.InPlace.{LeftByWrite, Wrote}
-use Rattle.writer_write.specs.Turns.{soundOf, writerOf, putInAll}
+use Rattle.writer_write.specs.Turns.{allCoherentAt, writerOf, putInAll}
 
 pub one-write : {r s : Numbered} {f g : WriterSendBuffer} {store store′ lens lens′ u u′ : List ℕ} {hs hs′ : List ReaderProxy} {o : LeftByWrite} → Wrote r f store lens hs u o → Wrote s g store′ lens′ hs′ u′ o
     → (r ≡ s) × (f ≡ g) × (store ≡ store′) × (lens ≡ lens′) × (hs ≡ hs′) × (u ≡ u′)
@@ -19,7 +19,7 @@ one-write p q =
     (one (p .is-result) (q .is-result), one (p .is-flow) (q .is-flow), one (p .is-store) (q .is-store), one (p .is-lens) (q .is-lens), one (p .is-proxies) (q .is-proxies), one (p .is-unsent) (q .is-unsent))
 
 module _ (hs ks ls : List ReaderProxy) (u v w : List ℕ) where
-  pub one-look : (t a b : Bool) → Gives2 a ks v (soundOf t hs u) → Gives2 b ls w (soundOf t hs u) → (a ≡ b) × (ks ≡ ls) × (v ≡ w)
+  pub one-look : (t a b : Bool) → Gives2 a ks v (allCoherentAt t hs u) → Gives2 b ls w (allCoherentAt t hs u) → (a ≡ b) × (ks ≡ ls) × (v ≡ w)
   one-look t a b p q = one2 p q
 
   pub one-put : (m a b : Numbered) → Gives2 a ks v (putInAll m hs u) → Gives2 b ls w (putInAll m hs u) → (a ≡ b) × (ks ≡ ls) × (v ≡ w)

@@ -15,13 +15,13 @@ use Rattle.rtps_reader_proxy.specs.declared.proxy.ReaderProxy.{ReaderProxy}
 use Rattle.writer_send_buffer.specs.declared.flow.Numbered.{Numbered}
 use Rattle.writer_write.specs.declared.sound.SoundReader.{SoundReader}
 use Rattle.writer_write.specs.declared.put.ToldReader.{ToldReader}
-use Rattle.writer_write.specs.Write.{Kept}
-use Rattle.writer_write.specs.Places.{strideOf, ownOf, readerAt, readersFrom, headsOf, laidFrom}
-use Rattle.writer_write.specs.Sound.{isSound, soundFrom}
-use Rattle.writer_write.specs.Turns.{soundAt, soundOf, putOne, putAt, putInAll}
+use Rattle.writer_write.specs.Write.{UnsentPart}
+use Rattle.writer_write.specs.Places.{strideOf, ownOf, readerAt, readersFrom, proxiesOf, laidFrom}
+use Rattle.writer_write.specs.Sound.{placeCoherent, placesCoherentFrom}
+use Rattle.writer_write.specs.Turns.{coherentAt, allCoherentAt, putOne, putAt, putInAll}
 use Rattle.writer_write.proofs.Parts.{own-in, put-long}
 
--- an outcome with one head before its list
+-- an outcome with one proxy before its list
 abbrev one-more : {A : Type 0} → ReaderProxy → Left2 A (List ReaderProxy) (List ℕ) → Left2 A (List ReaderProxy) (List ℕ)
 one-more h o = record { result = o .result; first = h ∷ o .first; second = o .second }
 
@@ -36,22 +36,22 @@ module _ (u : List ℕ) (n : ℕ) where
   abbrev stride : ℕ
   stride = strideOf n u
 
-  sound-from : (hs : List ReaderProxy) (i : ℕ) (t : Bool) → through sound-of same-proxy soundAt t hs u i n ≡ record { result = t && soundFrom n stride hs (drop (i * stride) u); first = hs; second = u }
+  sound-from : (hs : List ReaderProxy) (i : ℕ) (t : Bool) → through sound-of same-proxy coherentAt t hs u i n ≡ record { result = t && placesCoherentFrom n stride hs (drop (i * stride) u); first = hs; second = u }
   sound-from [] i true = refl
   sound-from [] i false = refl
   sound-from (h ∷ hs) i t =
       ap (one-more h) (sound-from hs (suc i) (t && here))
       ∙ ap (λ (b : Bool). record { result = b; first = h ∷ hs; second = u })
-      (and-assoc t here (soundFrom n stride hs (drop (suc i * stride) u))
-      ∙ ap (λ (v : List ℕ). t && (here && soundFrom n stride hs v)) (ap (λ (k : ℕ). drop k u) (suc-mul i stride) ∙ sym (drop-drop stride (i * stride) u)))
+      (and-assoc t here (placesCoherentFrom n stride hs (drop (suc i * stride) u))
+      ∙ ap (λ (v : List ℕ). t && (here && placesCoherentFrom n stride hs v)) (ap (λ (k : ℕ). drop k u) (suc-mul i stride) ∙ sym (drop-drop stride (i * stride) u)))
     where
       here : Bool
-      here = leb n 64 && isSound h (readerAt stride h (drop (i * stride) u) .unsent)
+      here = leb n 64 && placeCoherent h (readerAt stride h (drop (i * stride) u) .unsent)
 
-pub sounds : (hs : List ReaderProxy) (u : List ℕ) (t : Bool) → through (λ (r : SoundReader). r .sound) (λ (r : SoundReader). r .proxy) soundAt t hs u 0 (length hs) ≡ soundOf t hs u
+pub sounds : (hs : List ReaderProxy) (u : List ℕ) (t : Bool) → through (λ (r : SoundReader). r .sound) (λ (r : SoundReader). r .proxy) coherentAt t hs u 0 (length hs) ≡ allCoherentAt t hs u
 sounds hs u t =
     sound-from u (length hs) hs 0 t
-    ∙ ap (λ (k : ℕ). record { result = t && soundFrom (length hs) (strideOf (length hs) u) hs (drop k u); first = hs; second = u }) (zero-mul (strideOf (length hs) u))
+    ∙ ap (λ (k : ℕ). record { result = t && placesCoherentFrom (length hs) (strideOf (length hs) u) hs (drop k u); first = hs; second = u }) (zero-mul (strideOf (length hs) u))
 
 -- PUT: a stretch, x over its first numbers, and then the other stretches
 stretch : (x v : List ℕ) (c s : ℕ) → length x ≡ c → c ≤ s → s ≤ length v → x ++ drop c v ≡ (x ++ drop (length x) (take s v)) ++ drop s v
@@ -61,7 +61,7 @@ stretch x v c s e l f =
     ∙ sym (append-assoc x (drop (length x) (take s v)) (drop s v))
 
 module _ (m : Numbered) (n s : ℕ) where
-  abbrev after : ReaderProxy → List ℕ → Kept
+  abbrev after : ReaderProxy → List ℕ → UnsentPart
   after h v = putOne m (readerAt s h v)
 
   abbrev own-stretch : ReaderProxy → List ℕ → List ℕ
@@ -99,18 +99,18 @@ module _ (m : Numbered) (n s : ℕ) where
   abbrev proxy-of : ToldReader → ReaderProxy
   proxy-of r = r .proxy
 
-  abbrev afters : List ReaderProxy → List ℕ → List Kept
+  abbrev afters : List ReaderProxy → List ℕ → List UnsentPart
   afters hs v = map (putOne m) (readersFrom s hs v)
 
   abbrev put-from : List ReaderProxy → List ℕ → List ℕ → Left2 Numbered (List ReaderProxy) (List ℕ)
-  put-from hs pre v = record { result = m; first = headsOf (afters hs v); second = pre ++ laidFrom s (afters hs v) v }
+  put-from hs pre v = record { result = m; first = proxiesOf (afters hs v); second = pre ++ laidFrom s (afters hs v) v }
 
   puts-from : (hs : List ReaderProxy) (i : ℕ) (pre v : List ℕ) → length pre ≡ i * s → strideOf n (pre ++ v) ≡ s → length hs * s ≤ length v → through numbered-of proxy-of putAt m hs (pre ++ v) i n ≡ put-from hs pre v
   puts-from [] i pre v at is f = refl
   puts-from (h ∷ hs) i pre v at is f =
       ap (λ (o : Left1 ToldReader (List ℕ)). one-more (o .result .proxy) (through numbered-of proxy-of putAt (o .result .numbered) hs (o .first) (suc i) n)) (put-step h i pre v at is here)
       ∙ ap (one-more (after h v .proxy)) (puts-from hs (suc i) (pre ++ own-stretch h v) (drop s v) next-at (ap (λ (l : ℕ). l / n) same-long ∙ is) rest)
-      ∙ ap (λ (l : List ℕ). record { result = m; first = after h v .proxy ∷ headsOf (afters hs (drop s v)); second = l }) (append-assoc pre (own-stretch h v) (laidFrom s (afters hs (drop s v)) (drop s v)))
+      ∙ ap (λ (l : List ℕ). record { result = m; first = after h v .proxy ∷ proxiesOf (afters hs (drop s v)); second = l }) (append-assoc pre (own-stretch h v) (laidFrom s (afters hs (drop s v)) (drop s v)))
     where
       here : s ≤ length v
       here = omega (arith, f, suc-mul (length hs) s)

@@ -11,36 +11,35 @@ use lib.Seq.{length-take-le, drop-append-le, take-take, take-at, drop-at}
 use borrow.Author.Tests.{ltb-true, ltb-false, le-leb}
 use Rattle.sets.proofs.Bools.{and-both, or-right}
 use Rattle.numbers.specs.Number.{rankOf, isSample}
-use Rattle.numbers.specs.Refusals.{row, rowsOf, answerOf, isDone, done}
+use Rattle.numbers.specs.Refusals.{row, answerOf, isDone, done, Rows}
 use Rattle.numbers.specs.Promise.{Left1}
-use Rattle.numbers.specs.declared.answer.Rows.{Rows}
 use Rattle.rising.specs.Runs.{roomOf}
 use Rattle.rtps_reader_proxy.specs.declared.proxy.ReaderProxy.{ReaderProxy}
 use Rattle.rtps_reader_proxy.specs.declared.proxy.Changed.{Changed}
 use Rattle.rtps_reader_proxy.specs.Reader.{notified}
-use Rattle.rtps_reader_proxy.specs.Record.{roomFor, unsentOk}
+use Rattle.rtps_reader_proxy.specs.Record.{roomFor, unsentCoherent}
 use Rattle.rtps_reader_proxy.specs.Unsent.{notifiedOf, byUnsent, countUnsent}
 use Rattle.rtps_reader_proxy.proofs.UnsentCalls.{unsent-is}
-use Rattle.reader_record.proofs.Whole.{HeadIs, head-is}
+use Rattle.reader_record.proofs.Whole.{ProxyIs, proxy-is}
 use Rattle.reader_record.proofs.UnsentInPart.{unsent-part-ok, notify-in-part}
 use Rattle.writer_send_buffer.specs.declared.flow.Numbered.{Numbered}
-use Rattle.writer_write.specs.Write.{Kept, told}
+use Rattle.writer_write.specs.Write.{UnsentPart, told}
 use Rattle.writer_write.specs.Places.{isFree, ownOf, readerAt}
-use Rattle.writer_write.specs.Sound.{isSound}
-use Rattle.writer_write.specs.Standing.{Place, vacant, keeps, placeAt}
+use Rattle.writer_write.specs.Sound.{placeCoherent}
+use Rattle.writer_write.specs.Standing.{ReaderPlace, vacant, keeps, placeAt}
 use Rattle.writer_write.proofs.Parts.{own-in, own-capped, put-long}
 use Rattle.writer_write.proofs.Tells.{toldOne, Given, free-cap, told-free, put-told}
 use Rattle.writer_write.proofs.Unchanged.{start-back}
 
 -- a reader that is told keeps its cap
-pub cap-stays : (m : Numbered) (k : Kept) → toldOne m k .proxy .«unsent_cap» ≡ k .proxy .«unsent_cap»
+pub cap-stays : (m : Numbered) (k : UnsentPart) → toldOne m k .proxy .«unsent_cap» ≡ k .proxy .«unsent_cap»
 cap-stays m k = go (isDone (m .answer)) (isDone (answerOf rows))
   where
     h : ReaderProxy
     h = k .proxy
 
     rows : Rows
-    rows = rowsOf (row 1 (not (roomFor 1 (h .«unsent_cap») (h .«unsent_count») (k .unsent) && unsentOk h (k .unsent))) ∷ row 2 (not (isSample (m .number))) ∷ [])
+    rows = row 1 refl (not (roomFor 1 (h .«unsent_cap») (h .«unsent_count») (k .unsent) && unsentCoherent h (k .unsent))) ∷ row 2 refl (not (isSample (m .number))) ∷ []
 
     new : List ℕ
     new = notified (rankOf (m .number)) (byUnsent h (k .unsent)) .unsent
@@ -61,7 +60,7 @@ not-free p h = go (isFree p) refl
     go false e = refl
 
 module _ (s : ℕ) (h : ReaderProxy) (v : List ℕ) (long : s ≤ length v) where
-  abbrev after : Numbered → Kept
+  abbrev after : Numbered → UnsentPart
   after m = toldOne m (readerAt s h v)
 
   -- what the stretch is then
@@ -78,27 +77,27 @@ module _ (s : ℕ) (h : ReaderProxy) (v : List ℕ) (long : s ≤ length v) wher
         go false = refl
 
     pub vacant-stretch : stretch m ≡ take s v
-    vacant-stretch = ap (λ (k : Kept). k .unsent ++ drop (length (k .unsent)) (take s v)) same ∙ start-back s (ownOf s h) v (own-in s h)
+    vacant-stretch = ap (λ (k : UnsentPart). k .unsent ++ drop (length (k .unsent)) (take s v)) same ∙ start-back s (ownOf s h) v (own-in s h)
 
     pub vacant-after : (rest : List ℕ) → placeAt s (after m .proxy) (stretch m ++ rest) ≡ vacant h (take s v)
     vacant-after rest =
-        ap (λ (k : Kept). placeAt s (k .proxy) (stretch m ++ rest)) same
+        ap (λ (k : UnsentPart). placeAt s (k .proxy) (stretch m ++ rest)) same
         ∙ ap (λ (t : Bool). cond t (vacant h (take s (stretch m ++ rest))) (keeps (record { proxy = h; unsent = take (h .«unsent_cap») (take s (stretch m ++ rest)) }) (drop (h .«unsent_cap») (take s (stretch m ++ rest))))) free
         ∙ ap (vacant h) (take-at (stretch m) rest s (ap length vacant-stretch ∙ length-take-le s v long) ∙ vacant-stretch)
 
   -- A READER
-  module _ (fit : h .«unsent_cap» ≤ s) (ok : unsentOk h (take (h .«unsent_cap») (take s v)) ≡ true) where
+  module _ (fit : h .«unsent_cap» ≤ s) (ok : unsentCoherent h (take (h .«unsent_cap») (take s v)) ≡ true) where
     abbrev own : ℕ
     own = ownOf s h
 
     abbrev whole : List ℕ
     whole = take (h .«unsent_cap») (take s v)
 
-    abbrev kept : Kept
+    abbrev kept : UnsentPart
     kept = record { proxy = h; unsent = whole }
 
-    head : HeadIs h
-    head = head-is h (unsent-is h whole ok .head)
+    head : ProxyIs h
+    head = proxy-is h (unsent-is h whole ok .proxy)
 
     whole-long : length whole ≡ h .«unsent_cap»
     whole-long = length-take-le (h .«unsent_cap») (take s v) (omega (arith, length-take-le s v long))
@@ -124,11 +123,11 @@ module _ (s : ℕ) (h : ReaderProxy) (v : List ℕ) (long : s ≤ length v) wher
             let w = ltb-false (h .«unsent_count») (h .«unsent_cap») e in
             or-right (leb 1 (length (take own whole) - h .«unsent_count»)) (leb (h .«unsent_cap») (length (take own whole))) (le-leb (h .«unsent_cap») (length (take own whole)) (omega (arith, part-long)))
 
-    pub part-sound : isSound h (take own v) ≡ true
+    pub part-sound : placeCoherent h (take own v) ≡ true
     part-sound =
-        or-right (isFree h) (roomFor 1 (h .«unsent_cap») (h .«unsent_count») (take own v) && unsentOk h (take own v))
-        (ap (λ (l : List ℕ). roomFor 1 (h .«unsent_cap») (h .«unsent_count») l && unsentOk h l) part-of
-        ∙ and-both (roomFor 1 (h .«unsent_cap») (h .«unsent_count») (take own whole)) (unsentOk h (take own whole)) has-room (unsent-part-ok h whole ok whole-long own holds-all (own-capped s h)))
+        or-right (isFree h) (roomFor 1 (h .«unsent_cap») (h .«unsent_count») (take own v) && unsentCoherent h (take own v))
+        (ap (λ (l : List ℕ). roomFor 1 (h .«unsent_cap») (h .«unsent_count») l && unsentCoherent h l) part-of
+        ∙ and-both (roomFor 1 (h .«unsent_cap») (h .«unsent_count») (take own whole)) (unsentCoherent h (take own whole)) has-room (unsent-part-ok h whole ok whole-long own holds-all (own-capped s h)))
 
     module _ (m : Numbered) where
       -- the part that is told, with what is not looked at, is the whole that is told
@@ -148,7 +147,7 @@ module _ (s : ℕ) (h : ReaderProxy) (v : List ℕ) (long : s ≤ length v) wher
       module _ (given : Given m) where
         after-long : length (after m .unsent) ≡ own
         after-long =
-            ap (λ (k : Kept). length (k .unsent)) (sym (put-told m given (readerAt s h v) (omega (arith, length-take own v, own-capped s h)) part-sound))
+            ap (λ (k : UnsentPart). length (k .unsent)) (sym (put-told m given (readerAt s h v) (omega (arith, length-take own v, own-capped s h)) part-sound))
             ∙ put-long m (readerAt s h v) ∙ length-take-le own v (omega (arith, own-in s h))
 
         told-long : length (toldOne m kept .unsent) ≡ h .«unsent_cap»
@@ -167,7 +166,7 @@ module _ (s : ℕ) (h : ReaderProxy) (v : List ℕ) (long : s ≤ length v) wher
             ap length kept-stretch ∙ length-append (toldOne m kept .unsent) (drop (h .«unsent_cap») (take s v))
             ∙ omega (arith, told-long, length-drop (h .«unsent_cap») (take s v), length-take-le s v long)
 
-        abbrev shown : ReaderProxy → ℕ → List ℕ → Place
+        abbrev shown : ReaderProxy → ℕ → List ℕ → ReaderPlace
         shown p c w = keeps (record { proxy = p; unsent = take c w }) (drop c w)
 
         abbrev rest-of : List ℕ

@@ -8,8 +8,9 @@ use lib.Dec.{leb}
 use lib.ListN.{length, set}
 use borrow.Author.Tests.{eqb-true, le-leb}
 use Rattle.sets.proofs.Bools.{and-both, clash}
-use Rattle.numbers.specs.Number.{topNumber, rankOf, validRank, numberAt}
-use Rattle.numbers.specs.Refusals.{row, rowsOf, answerOf, isDone, done}
+use Rattle.numbers.specs.Capacities.{topNumber}
+use Rattle.numbers.specs.Number.{rankOf, validRank, numberAt}
+use Rattle.numbers.specs.Refusals.{row, answerOf, isDone, done}
 use Rattle.numbers.specs.Promise.{Left3, Gives2}
 use Rattle.numbers.specs.declared.answer.Answer.{Answer}
 use Rattle.numbers.specs.declared.sequence_number.SequenceNumber.{SequenceNumber}
@@ -19,19 +20,19 @@ use Rattle.writer_send_buffer.specs.declared.flow.WriterSendBuffer.{WriterSendB
 use Rattle.writer_send_buffer.specs.declared.flow.Numbered.{Numbered}
 use Rattle.writer_send_buffer.specs.declared.samples.Admitted.{Admitted}
 use Rattle.writer_send_buffer.specs.Flow.{admitted as flowAdmitted}
-use Rattle.writer_send_buffer.specs.Buffer.{noNumber, view, form}
-use Rattle.writer_send_buffer.specs.Samples.{writeRows, admitOf, handed, over, startOf, slotOf}
+use Rattle.writer_send_buffer.specs.Buffer.{numberedNo, flowView, flowForm}
+use Rattle.writer_send_buffer.specs.Samples.{writeRows, admitOf, handed, withBytes, slotStart, slotOf}
 use Rattle.writer_send_buffer.proofs.Sound.{written-is}
-use Rattle.writer_write.specs.Write.{Kept, toldAll, Written, writeStep}
-use Rattle.writer_write.specs.Places.{strideOf, readersIn, headsOf, laidFrom}
-use Rattle.writer_write.specs.Sound.{areSound}
-use Rattle.writer_write.specs.InPlace.{unsound, writeIn, writeOf, Wrote}
-use Rattle.writer_write.specs.Turns.{soundOf, writerOf, putOne, putInAll}
+use Rattle.writer_write.specs.Write.{UnsentPart, toldAll, Written, writeStep}
+use Rattle.writer_write.specs.Places.{strideOf, readersIn, proxiesOf, laidFrom}
+use Rattle.writer_write.specs.Sound.{placesCoherent}
+use Rattle.writer_write.specs.InPlace.{writeIncoherent, writeIn, writeOf, Wrote}
+use Rattle.writer_write.specs.Turns.{allCoherentAt, writerOf, putOne, putInAll}
 use Rattle.writer_write.proofs.Tells.{Given, map-same, puts-told}
 
 module _ (f : WriterSendBuffer) (store lens payload : List ℕ) (opted : Bool) where
   -- the writer's part
-  pub admit-unsound : (t : Bool) → t ≡ false → (a : Answer) → a ≡ answerOf (rowsOf (row 1 true ∷ [])) → (n : SequenceNumber) → n ≡ numberAt 0
+  pub admit-unsound : (t : Bool) → t ≡ false → (a : Answer) → a ≡ answerOf (row 1 refl true ∷ []) → (n : SequenceNumber) → n ≡ numberAt 0
       → Gives2 (record { numbered = record { answer = a; number = n }; flow = f }) store lens (handed (writerOf t f store lens payload opted))
   admit-unsound t e a ea n en =
       subst (λ (b : Bool). Gives2 (record { numbered = record { answer = a; number = n }; flow = f }) store lens (handed (writerOf b f store lens payload opted))) (sym e)
@@ -46,11 +47,11 @@ module _ (f : WriterSendBuffer) (store lens payload : List ℕ) (opted : Bool) w
       cond t
       (record {
         result = record { answer = done; number = numberAt (rankOf (f .last) + 1) };
-        first = form (flowAdmitted (view f) opted);
-        second = over store (startOf (view f) (rankOf (f .last) + 1)) payload;
-        third = set lens (slotOf (view f) (rankOf (f .last) + 1)) (length payload);
+        first = flowForm (flowAdmitted (flowView f) opted);
+        second = withBytes store (slotStart (flowView f) (rankOf (f .last) + 1)) payload;
+        third = set lens (slotOf (flowView f) (rankOf (f .last) + 1)) (length payload);
       })
-      (record { result = noNumber (answerOf (writeRows f (length store) lens (length payload) opted)); first = f; second = store; third = lens })
+      (record { result = numberedNo (answerOf (writeRows f (length store) lens (length payload) opted)); first = f; second = store; third = lens })
 
   -- the number given is a sample's
   pub is-given : Given (admitOf f store lens payload opted .result)
@@ -70,15 +71,15 @@ module _ (f : WriterSendBuffer) (store lens payload : List ℕ) (opted : Bool) w
     stepped t = record { writer = writerOf t f store lens payload opted; readers = toldAll (writerOf t f store lens payload opted .result) (readersIn hs u) }
 
     -- where the readers are coherent, what is put is what they are told; where not, nothing is
-    all-put : (t : Bool) → t ≡ areSound hs u → map (putOne (writerOf t f store lens payload opted .result)) (readersIn hs u) ≡ toldAll (writerOf t f store lens payload opted .result) (readersIn hs u)
+    all-put : (t : Bool) → t ≡ placesCoherent hs u → map (putOne (writerOf t f store lens payload opted .result)) (readersIn hs u) ≡ toldAll (writerOf t f store lens payload opted .result) (readersIn hs u)
     all-put true e = puts-told (admitOf f store lens payload opted .result) is-given (length hs) (strideOf (length hs) u) hs u (sym e)
     all-put false e = map-same (readersIn hs u)
 
-    both-ways : (t : Bool) → stepped t ≡ cond t (writeStep f store lens payload opted (readersIn hs u)) (record { writer = unsound f store lens; readers = readersIn hs u })
+    both-ways : (t : Bool) → stepped t ≡ cond t (writeStep f store lens payload opted (readersIn hs u)) (record { writer = writeIncoherent f store lens; readers = readersIn hs u })
     both-ways true = refl
     both-ways false = refl
 
-    pub wrote : (t : Bool) (hs₁ : List ReaderProxy) (u₁ : List ℕ) → Gives2 t hs₁ u₁ (soundOf true hs u) → (m : Admitted) (s l : List ℕ) → Gives2 m s l (handed (writerOf t f store lens payload opted))
+    pub wrote : (t : Bool) (hs₁ : List ReaderProxy) (u₁ : List ℕ) → Gives2 t hs₁ u₁ (allCoherentAt true hs u) → (m : Admitted) (s l : List ℕ) → Gives2 m s l (handed (writerOf t f store lens payload opted))
         → (r : Numbered) (hs₂ : List ReaderProxy) (u₂ : List ℕ) → Gives2 r hs₂ u₂ (putInAll (m .numbered) hs₁ u₁) → Wrote r (m .flow) s l hs₂ u₂ (writeOf f store lens payload opted hs u)
     wrote t hs₁ u₁ e₁ m s l e₂ r hs₂ u₂ e₃ =
         record {
@@ -86,8 +87,8 @@ module _ (f : WriterSendBuffer) (store lens payload : List ℕ) (opted : Bool) w
           is-flow = ap (λ (x : Admitted). x .flow) (e₂ .result) ∙ ap (λ (w : Written). w .writer .first) whole;
           is-store = e₂ .first ∙ ap (λ (w : Written). w .writer .second) whole;
           is-lens = e₂ .second ∙ ap (λ (w : Written). w .writer .third) whole;
-          is-proxies = e₃ .first ∙ (λ j. headsOf (map (putOne (numbered-is j)) (readersIn (e₁ .first j) (e₁ .second j)))) ∙ ap headsOf put-is ∙ ap (λ (w : Written). headsOf (w .readers)) whole;
-          is-unsent = e₃ .second ∙ (λ j. laidFrom (strideOf (length (e₁ .first j)) (e₁ .second j)) (map (putOne (numbered-is j)) (readersIn (e₁ .first j) (e₁ .second j))) (e₁ .second j)) ∙ ap (λ (ks : List Kept). laidFrom (strideOf (length hs) u) ks u) put-is
+          is-proxies = e₃ .first ∙ (λ j. proxiesOf (map (putOne (numbered-is j)) (readersIn (e₁ .first j) (e₁ .second j)))) ∙ ap proxiesOf put-is ∙ ap (λ (w : Written). proxiesOf (w .readers)) whole;
+          is-unsent = e₃ .second ∙ (λ j. laidFrom (strideOf (length (e₁ .first j)) (e₁ .second j)) (map (putOne (numbered-is j)) (readersIn (e₁ .first j) (e₁ .second j))) (e₁ .second j)) ∙ ap (λ (ks : List UnsentPart). laidFrom (strideOf (length hs) u) ks u) put-is
               ∙ ap (λ (w : Written). laidFrom (strideOf (length hs) u) (w .readers) u) whole;
         }
       where
@@ -98,4 +99,4 @@ module _ (f : WriterSendBuffer) (store lens payload : List ℕ) (opted : Bool) w
         put-is = all-put t (e₁ .result)
 
         whole : stepped t ≡ writeIn f store lens payload opted hs u
-        whole = ap stepped (e₁ .result) ∙ both-ways (areSound hs u)
+        whole = ap stepped (e₁ .result) ∙ both-ways (placesCoherent hs u)

@@ -1,29 +1,29 @@
 -- A WRITE THAT TELLS EVERY READER, in place: `writeStep` on the readers that stand side by side, which come to stand there again. Assumes nothing.
 use Prim.Native.Nat.{ℕ}
-use mathlib.Core.Path.{_≡_}
+use mathlib.Core.Path.{_≡_, refl}
 use mathlib.Core.Bool.{Bool, true, cond}
 use mathlib.Core.List.{List, [], _∷_}
 use lib.ListN.{length}
-use Rattle.numbers.specs.Refusals.{row, rowsOf, answerOf}
+use Rattle.numbers.specs.Refusals.{row, answerOf}
 use Rattle.numbers.specs.Promise.{Left3}
 use Rattle.rtps_reader_proxy.specs.declared.proxy.ReaderProxy.{ReaderProxy}
 use Rattle.writer_send_buffer.specs.declared.flow.WriterSendBuffer.{WriterSendBuffer}
 use Rattle.writer_send_buffer.specs.declared.flow.Numbered.{Numbered}
-use Rattle.writer_send_buffer.specs.Buffer.{noNumber}
+use Rattle.writer_send_buffer.specs.Buffer.{numberedNo}
 use Rattle.writer_write.specs.Write.{Written, writeStep}
-use Rattle.writer_write.specs.Places.{strideOf, readersIn, headsOf, laidFrom}
-use Rattle.writer_write.specs.Sound.{areSound}
+use Rattle.writer_write.specs.Places.{strideOf, readersIn, proxiesOf, laidFrom}
+use Rattle.writer_write.specs.Sound.{placesCoherent}
 
 -- where they are not coherent it is refused with 1, and nothing changes
-abbrev pub unsound : WriterSendBuffer → List ℕ → List ℕ → Left3 Numbered WriterSendBuffer (List ℕ) (List ℕ)
-unsound f store lens = record { result = noNumber (answerOf (rowsOf (row 1 true ∷ []))); first = f; second = store; third = lens }
+abbrev pub writeIncoherent : WriterSendBuffer → List ℕ → List ℕ → Left3 Numbered WriterSendBuffer (List ℕ) (List ℕ)
+writeIncoherent f store lens = record { result = numberedNo (answerOf (row 1 refl true ∷ [])); first = f; second = store; third = lens }
 
--- a free place's head is not coherent to `told`, which leaves it as it is
+-- a free place's proxy is not coherent to `told`, which leaves it as it is
 abbrev pub writeIn : WriterSendBuffer → List ℕ → List ℕ → List ℕ → Bool → List ReaderProxy → List ℕ → Written
 writeIn f store lens payload opted hs u =
-    cond (areSound hs u) (writeStep f store lens payload opted (readersIn hs u)) (record { writer = unsound f store lens; readers = readersIn hs u })
+    cond (placesCoherent hs u) (writeStep f store lens payload opted (readersIn hs u)) (record { writer = writeIncoherent f store lens; readers = readersIn hs u })
 
--- all that it leaves: the answer with the number, the flow record, the store, the lengths, the heads and the unsent room
+-- all that it leaves: the answer with the number, the flow record, the store, the lengths, the proxies and the unsent room
 pub record LeftByWrite : Type 0 where
   pub result : Numbered
   pub flow : WriterSendBuffer
@@ -39,7 +39,7 @@ sideBySide w s u =
       flow = w .writer .first;
       store = w .writer .second;
       lens = w .writer .third;
-      proxies = headsOf (w .readers);
+      proxies = proxiesOf (w .readers);
       unsent = laidFrom s (w .readers) u;
     }
 

@@ -4,6 +4,7 @@ use mathlib.Core.Bool.{Bool, cond, _&&_}
 use mathlib.Core.List.{List, _++_, map}
 use lib.Dec.{ltb, leb}
 use lib.ListN.{length, take, drop, getD, set}
+use Rattle.numbers.specs.Capacities.{mostReaders}
 use Rattle.numbers.specs.Number.{rankOf}
 use Rattle.numbers.specs.Refusals.{isDone}
 use Rattle.numbers.specs.Promise.{Left1, Left2, Left3}
@@ -15,25 +16,25 @@ use Rattle.writer_send_buffer.specs.declared.flow.Numbered.{Numbered}
 use Rattle.writer_send_buffer.specs.Samples.{admitOf}
 use Rattle.writer_write.specs.declared.sound.SoundReader.{SoundReader}
 use Rattle.writer_write.specs.declared.put.ToldReader.{ToldReader}
-use Rattle.writer_write.specs.Write.{Kept}
-use Rattle.writer_write.specs.Places.{strideOf, ownOf, readerAt, readersIn, headsOf, laidFrom}
-use Rattle.writer_write.specs.Sound.{isSound, areSound}
-use Rattle.writer_write.specs.InPlace.{unsound}
+use Rattle.writer_write.specs.Write.{UnsentPart}
+use Rattle.writer_write.specs.Places.{strideOf, ownOf, readerAt, readersIn, proxiesOf, laidFrom}
+use Rattle.writer_write.specs.Sound.{placeCoherent, placesCoherent}
+use Rattle.writer_write.specs.InPlace.{writeIncoherent}
 
 -- the reader at place i of n, in the room u
-abbrev pub atPlace : ReaderProxy → List ℕ → ℕ → ℕ → Kept
+abbrev pub atPlace : ReaderProxy → List ℕ → ℕ → ℕ → UnsentPart
 atPlace h u i n = readerAt (strideOf n u) h (drop (i * strideOf n u) u)
 
 -- THE LOOK: at one place, and at all of them
-abbrev pub soundAt : Bool → ReaderProxy → List ℕ → ℕ → ℕ → Left1 SoundReader (List ℕ)
-soundAt t h u i n = record { result = record { sound = t && (leb n 64 && isSound h (atPlace h u i n .unsent)); proxy = h }; first = u }
+abbrev pub coherentAt : Bool → ReaderProxy → List ℕ → ℕ → ℕ → Left1 SoundReader (List ℕ)
+coherentAt t h u i n = record { result = record { sound = t && (leb n mostReaders && placeCoherent h (atPlace h u i n .unsent)); proxy = h }; first = u }
 
-abbrev pub soundOf : Bool → List ReaderProxy → List ℕ → Left2 Bool (List ReaderProxy) (List ℕ)
-soundOf t hs u = record { result = t && areSound hs u; first = hs; second = u }
+abbrev pub allCoherentAt : Bool → List ReaderProxy → List ℕ → Left2 Bool (List ReaderProxy) (List ℕ)
+allCoherentAt t hs u = record { result = t && placesCoherent hs u; first = hs; second = u }
 
 -- THE WRITER'S PART, where `t` says whether the readers are coherent
 abbrev pub writerOf : Bool → WriterSendBuffer → List ℕ → List ℕ → List ℕ → Bool → Left3 Numbered WriterSendBuffer (List ℕ) (List ℕ)
-writerOf t f store lens payload opted = cond t (admitOf f store lens payload opted) (unsound f store lens)
+writerOf t f store lens payload opted = cond t (admitOf f store lens payload opted) (writeIncoherent f store lens)
 
 -- THE NUMBER PUT, with nothing checked: after the numbers of a run, where there is room and the last is below it; else at its place
 abbrev pub runWith : ℕ → ℕ → List ℕ → Left1 ℕ (List ℕ)
@@ -42,7 +43,7 @@ runWith n count a =
     (record { result = count + 1; first = set a count n })
     (inRoom (newest (length a) n) count a)
 
-abbrev pub withNumber : ℕ → Kept → Kept
+abbrev pub withNumber : ℕ → UnsentPart → UnsentPart
 withNumber n k =
     record {
       proxy = countUnsent (runWith n (k .proxy .«unsent_count») (k .unsent) .result) (k .proxy);
@@ -50,7 +51,7 @@ withNumber n k =
     }
 
 -- the number that was given, if one was
-abbrev pub putOne : Numbered → Kept → Kept
+abbrev pub putOne : Numbered → UnsentPart → UnsentPart
 putOne m k = cond (isDone (m .answer)) (withNumber (rankOf (m .number)) k) k
 
 -- into the room of one place, and into all of them
@@ -65,6 +66,6 @@ abbrev pub putInAll : Numbered → List ReaderProxy → List ℕ → Left2 Numbe
 putInAll m hs u =
     record {
       result = m;
-      first = headsOf (map (putOne m) (readersIn hs u));
+      first = proxiesOf (map (putOne m) (readersIn hs u));
       second = laidFrom (strideOf (length hs) u) (map (putOne m) (readersIn hs u)) u;
     }

@@ -1,10 +1,10 @@
-// A place for a reader: its head, and a stretch of the room. How much of the stretch is looked at, and whether the place is free.
+// A place for a reader: its proxy, and a stretch of the room. How much of the stretch is looked at, and whether the place is free.
 ghost use mathlib.Core.Path.{_≡_};
 ghost use Rattle.writer_write.specs.Places.{isFree, ownOf};
 use numbers::arith::smaller;
 use rtps_reader_proxy::ReaderProxy;
 
-// A free place is no reader's: its head is all zeros.
+// A free place is no reader's: its proxy is all zeros.
 pub(crate) fn is_free(proxy: ReaderProxy) -> bool
     ensures { λ r. ⌜ r ≡ isFree proxy ⌝ }
 {

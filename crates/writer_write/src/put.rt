@@ -9,7 +9,7 @@ use rtps_reader_proxy::ReaderProxy;
 use rtps_reader_proxy::proxy::last_of;
 use writer_send_buffer::Numbered;
 
-// What the write is answered, and a reader's head as it then is.
+// What the write is answered, and a reader's proxy as it then is.
 pub struct ToldReader {
     pub numbered: Numbered,
     pub proxy: ReaderProxy,

@@ -2,14 +2,15 @@
 ghost use mathlib.Core.Path.{_≡_};
 ghost use Prim.Native.Nat.{_<_};
 ghost use Rattle.numbers.specs.Promise.{Gives1, Gives2};
-ghost use Rattle.writer_write.specs.Sound.{isSound};
-ghost use Rattle.writer_write.specs.Turns.{soundAt, soundOf};
+ghost use Rattle.writer_write.specs.Sound.{placeCoherent};
+ghost use Rattle.writer_write.specs.Turns.{coherentAt, allCoherentAt};
 use crate::places::is_free;
 use crate::places::own_of;
+use reader_list::ReaderHead;
 use rtps_reader_proxy::ReaderProxy;
 use rtps_reader_proxy::proxy::room_for;
 
-// Whether the places up to this one are coherent, and its head.
+// Whether the places up to this one are coherent, and its proxy.
 pub struct SoundReader {
     pub sound: bool,
     pub proxy: ReaderProxy,
@@ -17,7 +18,7 @@ pub struct SoundReader {
 
 // A free place is coherent; a reader, if what is looked at of its room is, and has room for one number more.
 fn is_sound(proxy: ReaderProxy, unsent: &[u64]) -> bool
-    ensures { λ r. ⌜ r ≡ isSound proxy (now (unsent .entry)) ⌝ }
+    ensures { λ r. ⌜ r ≡ placeCoherent proxy (now (unsent .entry)) ⌝ }
 {
     let free = is_free(proxy);
     let fits = room_for(unsent, proxy.unsent_count, proxy.unsent_cap, 1);
@@ -25,24 +26,24 @@ fn is_sound(proxy: ReaderProxy, unsent: &[u64]) -> bool
     free | (fits & ok)
 }
 
-// Place i of n: its head and its part of the room are looked at.
+// Place i of n: its proxy and its part of the room are looked at.
 fn sound_at(sound: bool, proxy: ReaderProxy, unsent: &mut [u64], i: usize, n: usize) -> SoundReader
     requires { ⌜ i < n ⌝ }
-    ensures { λ r. ⌜ Gives1 r (now (unsent .exit)) (soundAt sound proxy (now (unsent .entry)) i n) ⌝ }
+    ensures { λ r. ⌜ Gives1 r (now (unsent .exit)) (coherentAt sound proxy (now (unsent .entry)) i n) ⌝ }
 {
     let stride = unsent.len() / n;
     let a = i * stride;
     let e = a + own_of(stride, proxy);
     let ok = is_sound(proxy, &unsent[a..e]);
     SoundReader {
-        sound: sound & ((n <= 64) & ok),
+        sound: sound & ((n <= ReaderHead::MOST) & ok),
         proxy,
     }
 }
 
 // Whether `sound`, and there are at most 64 places, and all are coherent.
 pub fn all_sound(proxies: &mut [ReaderProxy], unsent: &mut [u64], sound: bool) -> bool
-    ensures { λ r. ⌜ Gives2 r (now (proxies .exit)) (now (unsent .exit)) (soundOf sound (now (proxies .entry)) (now (unsent .entry))) ⌝ }
+    ensures { λ r. ⌜ Gives2 r (now (proxies .exit)) (now (unsent .exit)) (allCoherentAt sound (now (proxies .entry)) (now (unsent .entry))) ⌝ }
 {
     let mut acc = sound;
     let mut i = 0;

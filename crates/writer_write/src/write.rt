@@ -1,4 +1,4 @@
-// A write that tells every reader, in place. The readers' records stand side by side: their heads in one lent list of at most 64 places, their unsent rooms in
+// A write that tells every reader, in place. The readers' records stand side by side: their proxies in one lent list of at most 64 places, their unsent rooms in
 // one lent room, which has a stretch of as many numbers for each place; a reader's room is at the start of its stretch.
 ghost use Rattle.numbers.specs.Promise.{Gives2};
 ghost use Rattle.writer_send_buffer.specs.Samples.{handed};
@@ -7,7 +7,6 @@ ghost use Rattle.writer_write.specs.Turns.{writerOf};
 use crate::put::put_all;
 use crate::sound::all_sound;
 use numbers::Answer;
-use numbers::Rows;
 use numbers::SequenceNumber;
 use rtps_reader_proxy::ReaderProxy;
 use writer_send_buffer::Admitted;
@@ -26,9 +25,7 @@ pub fn admitted(
     ensures { λ r. ⌜ Gives2 r (now (store .exit)) (now (lens .exit)) (handed (writerOf sound flow (now (store .entry)) (now (lens .entry)) (now (payload .entry)) opted)) ⌝ }
 {
     if !sound {
-        let mut rows = Rows::none();
-        rows.incoherent = true;
-        let answer = Answer::of(rows);
+        let answer = Answer::coherence(false);
         let number = SequenceNumber::from_rank(0);
         return Admitted {
             numbered: Numbered { answer, number },

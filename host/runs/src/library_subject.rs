@@ -2,8 +2,8 @@
 
 use model::{Kind, Limits, Reader, ReaderList, SendBuffer};
 use sintemuno::ffi::{
-    self, Acked, AckedFrontier, Cursor, FragmentNumber, Match, NextNumber, ReaderHead,
-    SequenceNumber,
+    self, Acked, AckedFrontier, Cursor, FragmentCursor, FragmentNumber, Match, NextNumber,
+    ReaderHead, SequenceNumber,
 };
 
 use crate::{
@@ -131,7 +131,7 @@ impl ReaderSubject for LentReader {
     }
 
     fn next_fragment(&self, from: u32) -> Option<(i64, u32)> {
-        let from = Cursor { from: from.into() };
+        let from = FragmentCursor { from: from.into() };
         let next = ffi::reader_next_frag_requested(self.head, &self.samples, &self.words, from);
         let found = (next.sample.0, next.fragment.0);
         some(next.answer, found)

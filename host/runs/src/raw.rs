@@ -86,10 +86,10 @@ fn count(tally: &mut Tally, entry: &'static str, answer: ffi::Answer) {
 
 fn number(refusal: Refusal) -> ffi::Answer {
     let number = u32::from(refusal.number());
-    ffi::Answer { number }
+    ffi::Answer { number, place: 0 }
 }
 
-const INCOHERENT: ffi::Answer = ffi::Answer { number: 1 };
+const INCOHERENT: ffi::Answer = ffi::Answer { number: 1, place: 0 };
 
 /// The answer and its value: zeros where it is a refusal.
 fn parts<T: Default>(answer: Answer<T>) -> (ffi::Answer, T) {

@@ -190,7 +190,7 @@ impl Steps for FaultySteps {
     ) -> Numbered {
         let free = |head: &ReaderProxy| *head == ReaderProxy::default();
         let incoherent = Numbered {
-            answer: Answer { number: 1 },
+            answer: Answer { number: 1, place: 0 },
             number: SequenceNumber(0),
         };
         match self.0 {

@@ -182,7 +182,7 @@ pub fn reader_next_frag_requested(
     proxy: ReaderProxy,
     samples: &[u64],
     words: &[u64],
-    at: Cursor,
+    at: FragmentCursor,
 ) -> NextFragRequested {
     unsafe {
         entries::sintemuno_reader_next_frag_requested(
@@ -230,7 +230,7 @@ pub fn fragment_set_list_members(set: FragmentNumberSet, out: &mut [u64]) -> Lis
     unsafe { entries::sintemuno_fragment_set_list_members(set, out.as_mut_ptr(), out.len()) }
 }
 
-pub fn fragment_set_next_member(set: FragmentNumberSet, at: Cursor) -> NextFragment {
+pub fn fragment_set_next_member(set: FragmentNumberSet, at: FragmentCursor) -> NextFragment {
     unsafe { entries::sintemuno_fragment_set_next_member(set, at) }
 }
 

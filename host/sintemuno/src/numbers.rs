@@ -3,7 +3,10 @@
 use std::{fmt, iter};
 
 use crate::{
-    ffi::{self, Cursor, FragmentNumber, FragmentNumberSet, SequenceNumber, SequenceNumberSet},
+    ffi::{
+        self, Cursor, FragmentCursor, FragmentNumber, FragmentNumberSet, SequenceNumber,
+        SequenceNumberSet,
+    },
     refusal::{given, Result},
 };
 
@@ -105,7 +108,7 @@ impl FragmentNumberSet {
 
     /// The members, rising; none of a set that has more than 256 bits.
     pub fn iter(&self) -> impl Iterator<Item = FragmentNumber> + '_ {
-        let mut at = Cursor::default();
+        let mut at = FragmentCursor::default();
         iter::from_fn(move || {
             let next = ffi::fragment_set_next_member(*self, at);
             at = next.cursor;

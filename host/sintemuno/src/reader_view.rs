@@ -3,7 +3,7 @@
 use std::{fmt, iter};
 
 use crate::{
-    ffi::{self, Cursor, FragmentNumber, ReaderProxy, SequenceNumber},
+    ffi::{self, Cursor, FragmentCursor, FragmentNumber, ReaderProxy, SequenceNumber},
     record::WORDS_PER_SAMPLE,
     refusal::given,
 };
@@ -107,7 +107,7 @@ impl<'a> ReaderView<'a> {
     pub fn frags_requested_iterator(
         self,
     ) -> impl Iterator<Item = (SequenceNumber, FragmentNumber)> + 'a {
-        let mut at = Cursor::default();
+        let mut at = FragmentCursor::default();
         iter::from_fn(move || {
             let (samples, words) = self.frags();
             let next = ffi::reader_next_frag_requested(self.head, samples, words, at);

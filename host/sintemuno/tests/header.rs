@@ -8,7 +8,7 @@ const ENTRIES: &str = include_str!("../src/ffi/entries.rs");
 const TYPES: &str = include_str!("../src/ffi/types.rs");
 
 /// C's names and Rust's.
-const NAMES: [(&str, &str); 38] = [
+const NAMES: [(&str, &str); 39] = [
     ("int64_t", "i64"),
     ("uint64_t", "u64"),
     ("uint32_t", "u32"),
@@ -19,6 +19,7 @@ const NAMES: [(&str, &str); 38] = [
     ("sintemuno_fragment_number", "FragmentNumber"),
     ("sintemuno_answer", "Answer"),
     ("sintemuno_cursor", "Cursor"),
+    ("sintemuno_fragment_cursor", "FragmentCursor"),
     ("sintemuno_set", "SequenceNumberSet"),
     ("sintemuno_fragment_set", "FragmentNumberSet"),
     ("sintemuno_reader", "ReaderProxy"),

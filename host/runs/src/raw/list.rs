@@ -53,10 +53,10 @@ pub fn damage(prng: &mut Prng, near: Near, slots: &mut Vec<ReaderHead>) {
 
 /// The readers that are there, in the order of their slots. `None` if the list
 /// isn't coherent: no slots or too many, two readers of one id, or a free slot
-/// with something in it (a negative acked counts as 0).
+/// with something in it.
 pub fn view(slots: &[ReaderHead]) -> Option<ReaderList> {
     let free = |h: &&ReaderHead| h.id == 0;
-    let empty = |h: &ReaderHead| !h.reliable && h.acked.0 <= 0;
+    let empty = |h: &ReaderHead| !h.reliable && h.acked.0 == 0;
     let there = slots.iter().filter(|h| h.id != 0);
     let list = ReaderList {
         room: slots.len(),

@@ -2,8 +2,8 @@
 
 use model::{Answer, Reader};
 use sintemuno::ffi::{
-    self, AckNacked, Changed, Cursor, FragmentNumber, NextFragRequested, NextNumber, ReaderProxy,
-    SequenceNumber, Taken, Told,
+    self, AckNacked, Changed, Cursor, FragmentCursor, FragmentNumber, NextFragRequested,
+    NextNumber, ReaderProxy, SequenceNumber, Taken, Told,
 };
 
 use super::{count, damage_room, parts, word, Tally, CALLS_PER_WORLD, INCOHERENT};
@@ -432,10 +432,14 @@ fn fragment_questions(prng: &mut Prng, tally: &mut Tally, lent: &LentReader) -> 
         answer,
         sample: sn(sample),
         fragment: FragmentNumber(fragment),
-        cursor: Cursor { from: next },
+        cursor: FragmentCursor { from: next },
     };
-    let got =
-        ffi::reader_next_frag_requested(lent.head, &lent.samples, &lent.words, Cursor { from });
+    let got = ffi::reader_next_frag_requested(
+        lent.head,
+        &lent.samples,
+        &lent.words,
+        FragmentCursor { from },
+    );
     count(tally, "reader_next_frag_requested", got.answer);
     same(&("next_frag_requested", from), got, expected)?;
 

@@ -2,8 +2,8 @@
 
 use model::{numbers::MOST_BITS, FragmentSet, NumberSet, Refusal};
 use sintemuno::ffi::{
-    self, Answer, Cursor, FragmentNumber, FragmentNumberSet, Listed, NextFragment, SequenceNumber,
-    SequenceNumberSet, WrittenFragments, WrittenNumbers,
+    self, Answer, FragmentCursor, FragmentNumber, FragmentNumberSet, Listed, NextFragment,
+    SequenceNumber, SequenceNumberSet, WrittenFragments, WrittenNumbers,
 };
 
 use super::{
@@ -51,13 +51,13 @@ fn numbers(prng: &mut Prng, base: u64) -> Vec<u64> {
     numbers
 }
 
-/// Base, count and words of the set of the numbers given; a negative base
-/// counts as 0 here, and is refused.
-fn written(base: u64, negative: bool, numbers: &[u64]) -> (Answer, u32, [u32; 8]) {
+/// Base, count and words of the set of the numbers given; a negative base is
+/// refused, and its 256 bits count from it.
+fn written(base: i64, numbers: &[u64]) -> (Answer, u32, [u32; 8]) {
     let wide = |n: &u64| i128::from(*n) - i128::from(base);
     let above = numbers.iter().any(|n| wide(n) >= i128::from(MOST_BITS));
     let below = numbers.iter().any(|n| wide(n) < 0);
-    let answer = refused(above, negative || below);
+    let answer = refused(above, base < 0 || below);
     if answer.number != 0 {
         return (answer, 0, [0; 8]);
     }
@@ -110,7 +110,7 @@ fn sequence_numbers(prng: &mut Prng, near: Near, tally: &mut Tally) -> Result<()
 
     let base = near.number(prng);
     let numbers = numbers(prng, base.max(0) as u64);
-    let (answer, bits, words) = written(base.max(0) as u64, base < 0, &numbers);
+    let (answer, bits, words) = written(base, &numbers);
     let made = WrittenNumbers {
         answer,
         set: SequenceNumberSet {
@@ -150,14 +150,14 @@ fn fragment_numbers(prng: &mut Prng, tally: &mut Tally) -> Result<(), String> {
         (0, next) => NextFragment {
             answer,
             number: FragmentNumber(next as u32),
-            cursor: Cursor { from: next + 1 },
+            cursor: FragmentCursor { from: next + 1 },
         },
         _ => NextFragment {
             answer,
             ..NextFragment::default()
         },
     };
-    let got = ffi::fragment_set_next_member(set, Cursor { from });
+    let got = ffi::fragment_set_next_member(set, FragmentCursor { from });
     count(tally, "fragment_set_next_member", got.answer);
     same(&("fragment_set_next_member", set, from), got, expected)?;
 
@@ -167,7 +167,7 @@ fn fragment_numbers(prng: &mut Prng, tally: &mut Tally) -> Result<(), String> {
         draw_any::fragment(prng)
     };
     let numbers = numbers(prng, base.into());
-    let (answer, bits, words) = written(base.into(), false, &numbers);
+    let (answer, bits, words) = written(base.into(), &numbers);
     let made = WrittenFragments {
         answer,
         set: FragmentNumberSet {

@@ -93,7 +93,7 @@ extern "C" {
         samples_len: usize,
         words: *const u64,
         words_len: usize,
-        at: Cursor,
+        at: FragmentCursor,
     ) -> NextFragRequested;
     pub fn sintemuno_reader_repair_frags_requested(
         proxy: ReaderProxy,
@@ -123,7 +123,10 @@ extern "C" {
         out: *mut u64,
         out_len: usize,
     ) -> Listed;
-    pub fn sintemuno_fragment_set_next_member(set: FragmentNumberSet, at: Cursor) -> NextFragment;
+    pub fn sintemuno_fragment_set_next_member(
+        set: FragmentNumberSet,
+        at: FragmentCursor,
+    ) -> NextFragment;
     pub fn sintemuno_writer_new(kind: Kind, limits: Limits) -> Moved;
     pub fn sintemuno_writer_has_room(flow: WriterSendBuffer, opted: bool) -> Told;
     pub fn sintemuno_writer_admit(

@@ -17,17 +17,26 @@ pub struct SequenceNumber(pub i64);
 #[derive(Clone, Copy, Debug, PartialEq, Eq, PartialOrd, Ord, Hash, Default)]
 pub struct FragmentNumber(pub u32);
 
-/// A number of document 01's table; 0 is done.
+/// A number of document 01's table, 0 is done; and the place that it is about,
+/// where a number has one: 0 in every answer of today.
 #[repr(C)]
 #[derive(Clone, Copy, Debug, PartialEq, Eq, Default)]
 pub struct Answer {
     pub number: u32,
+    pub place: u32,
 }
 
-/// The next number to look at; 0 is the start.
+/// The next sample number to look at; 0 is the start.
 #[repr(C)]
 #[derive(Clone, Copy, Debug, PartialEq, Eq, Default)]
 pub struct Cursor {
+    pub from: u64,
+}
+
+/// The next fragment to look at; 0 is the start.
+#[repr(C)]
+#[derive(Clone, Copy, Debug, PartialEq, Eq, Default)]
+pub struct FragmentCursor {
     pub from: u64,
 }
 
@@ -161,7 +170,7 @@ pub struct NextNumber {
 pub struct NextFragment {
     pub answer: Answer,
     pub number: FragmentNumber,
-    pub cursor: Cursor,
+    pub cursor: FragmentCursor,
 }
 
 #[repr(C)]
@@ -193,7 +202,7 @@ pub struct NextFragRequested {
     pub answer: Answer,
     pub sample: SequenceNumber,
     pub fragment: FragmentNumber,
-    pub cursor: Cursor,
+    pub cursor: FragmentCursor,
 }
 
 #[repr(C)]

@@ -11,13 +11,10 @@ use Rattle.number_sets.proofs.sequence_number_set.beyond.Reads as reads
 use Rattle.number_sets.proofs.sequence_number_set.beyond.Lts as lts
 
 abbrev Inv-loop : tie.InvT-loop
-Inv-loop base numbers end below₀ above₀ i₀ below above i = Looking base end numbers below above i
+Inv-loop base end numbers below₀ above₀ i₀ below above i = Looking base end numbers below above i
 
 abbrev μ-loop : tie.MeasureT-loop
-μ-loop base numbers end below₀ above₀ i₀ below above i = length numbers - i
-
-add-end : tie.Need-add-end Inv-loop μ-loop
-add-end c = search needs
+μ-loop base end numbers below₀ above₀ i₀ below above i = length numbers - i
 
 loop-holds : tie.Need-loop-holds Inv-loop μ-loop
 loop-holds c = looking-start _ _ _
@@ -48,7 +45,6 @@ beyond-spec =
     (tie.spec
     Inv-loop
     μ-loop
-    add-end
     loop-holds
     mul-n
     shared-slice-read-n

@@ -1,8 +1,8 @@
 -- `acked_end` meets its contract. Assumes nothing.
 use mathlib.Core.Bool.{false}
 use Rattle.numbers.specs.Number.{negative}
-use Rattle.reader_list.specs.Slots.{listed}
-use Rattle.reader_list.specs.Walk.{isWhole, notKnown}
+use Rattle.reader_list.specs.Slots.{listRows}
+use Rattle.reader_list.specs.Walk.{walkCoherent, notKnown}
 use Rattle.reader_list.proofs.Settled.{put}
 use borrow.Author.Needs.{needs}
 use Rattle.reader_list.proofs.ends.acked_end.Statement.{statement}
@@ -23,7 +23,7 @@ returns c =
     let is-negative = c .before .before .before .is-negative in
     let list-answer = c .before .before .list-answer in
     let s = args .s in
-    rw (c .put-at .ensures) (put (listed false (isWhole s) (negative (s .ask .acked)) (notKnown s) false) (list-answer .result) (rw (is-negative .ensures) at (list-answer .ensures)) _ _)
+    rw (c .put-at .ensures) (put (listRows false (walkCoherent s) (negative (s .ask .acked)) (notKnown s) false) (list-answer .result) (rw (is-negative .ensures) at (list-answer .ensures)) _ _)
 
 pub acked-end-spec : {M : Type 1} → statement M
 acked-end-spec =

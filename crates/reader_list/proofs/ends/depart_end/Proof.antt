@@ -1,7 +1,7 @@
 -- `depart_end` meets its contract. Assumes nothing.
 use mathlib.Core.Bool.{false}
-use Rattle.reader_list.specs.Slots.{listed}
-use Rattle.reader_list.specs.Walk.{isWhole, notKnown}
+use Rattle.reader_list.specs.Slots.{listRows}
+use Rattle.reader_list.specs.Walk.{walkCoherent, notKnown}
 use Rattle.reader_list.proofs.Settled.{put}
 use borrow.Author.Needs.{needs}
 use Rattle.reader_list.proofs.ends.depart_end.Statement.{statement}
@@ -21,7 +21,7 @@ returns c =
     let args = c .before .before .before .before .args in
     let list-answer = c .before .before .list-answer in
     let s = args .s in
-    rw (c .put-at .ensures, c .before .free-slot .ensures) (put (listed false (isWhole s) false (notKnown s) false) (list-answer .result) (list-answer .ensures) _ _)
+    rw (c .put-at .ensures, c .before .free-slot .ensures) (put (listRows false (walkCoherent s) false (notKnown s) false) (list-answer .result) (list-answer .ensures) _ _)
 
 pub depart-end-spec : {M : Type 1} → statement M
 depart-end-spec =

@@ -2,8 +2,8 @@
 use mathlib.Core.Bool.{false}
 use Rattle.numbers.specs.Refusals.{done}
 use Rattle.numbers.proofs.Refused.{is-refused, is-done, done-is}
-use Rattle.reader_list.specs.Slots.{listed, frontierAt}
-use Rattle.reader_list.specs.Walk.{isWhole}
+use Rattle.reader_list.specs.Slots.{listRows, frontierAt}
+use Rattle.reader_list.specs.Walk.{walkCoherent}
 use Rattle.reader_list.specs.declared.calls.Front.{Front}
 use borrow.Author.Needs.{needs}
 use Rattle.reader_list.proofs.ends.front_end.Statement.{statement}
@@ -20,7 +20,7 @@ returns c =
     let args = c .before .before .before .before .args in
     let list-answer = c .before .before .before .list-answer in
     let s = args .s in
-    rw (c .from-rank .ensures) (is-refused {A = Front} (listed false (isWhole s) false false false) (list-answer .result) (list-answer .ensures) (λ no. record { answer = no; frontier = frontierAt 0 })
+    rw (c .from-rank .ensures) (is-refused {A = Front} (listRows false (walkCoherent s) false false false) (list-answer .result) (list-answer .ensures) (λ no. record { answer = no; frontier = frontierAt 0 })
     (record { answer = done; frontier = frontierAt (s .front) }) (c .before .if1 .taken))
 
 from-rank-requires-2 : tie.Need-from-rank-requires-2
@@ -31,8 +31,8 @@ returns-2 c =
     let args = c .before .before .before .before .args in
     let list-answer = c .before .before .before .list-answer in
     let s = args .s in
-    rw (done-is (list-answer .result) (c .before .if1 .left), c .from-rank2 .ensures)
-    (is-done {A = Front} (listed false (isWhole s) false false false) (list-answer .result) (list-answer .ensures) (λ no. record { answer = no; frontier = frontierAt 0 })
+    rw (done-is (listRows false (walkCoherent s) false false false) (list-answer .result) (list-answer .ensures) (c .before .if1 .left), c .from-rank2 .ensures)
+    (is-done {A = Front} (listRows false (walkCoherent s) false false false) (list-answer .result) (list-answer .ensures) (λ no. record { answer = no; frontier = frontierAt 0 })
     (record { answer = done; frontier = frontierAt (s .front) }) (c .before .if1 .left))
 
 pub front-end-spec : {M : Type 1} → statement M

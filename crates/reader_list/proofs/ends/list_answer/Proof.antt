@@ -6,14 +6,36 @@ use Rattle.reader_list.proofs.ends.list_answer.Tie as tie
 is-whole-requires : tie.Need-is-whole-requires
 is-whole-requires c κs = search needs
 
-none-requires : tie.Need-none-requires
-none-requires c κs = search needs
+done-requires : tie.Need-done-requires
+done-requires c κs = search needs
 
-of-requires : tie.Need-of-requires
-of-requires c κs = search needs
+unless-requires : tie.Need-unless-requires
+unless-requires c κs = search needs
+
+unless-requires-2 : tie.Need-unless-requires-2
+unless-requires-2 c κs = search needs
+
+unless-requires-3 : tie.Need-unless-requires-3
+unless-requires-3 c κs = search needs
+
+unless-requires-4 : tie.Need-unless-requires-4
+unless-requires-4 c κs = search needs
+
+unless-requires-5 : tie.Need-unless-requires-5
+unless-requires-5 c κs = search needs
 
 returns : tie.Need-returns
-returns c = rw (c .of .ensures, c .before .none .ensures, c .before .before .is-whole .ensures)
+returns c = rw (c .unless5 .ensures, c .before .unless4 .ensures, c .before .before .unless3 .ensures, c .before .before .before .unless2 .ensures, c .before .before .before .before .unless .ensures, c .before .before .before .before .before .done .ensures, c .before .before .before .before .before .before .is-whole .ensures)
 
 pub list-answer-spec : {M : Type 1} → statement M
-list-answer-spec = tie.close (tie.spec is-whole-requires none-requires of-requires returns)
+list-answer-spec =
+    tie.close
+    (tie.spec
+    is-whole-requires
+    done-requires
+    unless-requires
+    unless-requires-2
+    unless-requires-3
+    unless-requires-4
+    unless-requires-5
+    returns)

@@ -1,8 +1,8 @@
 -- `match_end` meets its contract. Assumes nothing.
 use mathlib.Core.Bool.{false, not, _||_}
 use lib.Dec.{eqb}
-use Rattle.reader_list.specs.Slots.{listed, capAllowed}
-use Rattle.reader_list.specs.Walk.{isWhole, isFound, hasFree}
+use Rattle.reader_list.specs.Slots.{listRows, capAllowed}
+use Rattle.reader_list.specs.Walk.{walkCoherent, isFound, hasFree}
 use Rattle.reader_list.proofs.Settled.{put}
 use borrow.Author.Needs.{needs}
 use Rattle.reader_list.proofs.ends.match_end.Statement.{statement}
@@ -23,7 +23,7 @@ returns c =
     let list-answer = c .before .before .list-answer in
     let s = args .s in
     rw (c .put-at .ensures, c .before .from-rank .ensures)
-    (put (listed (not (capAllowed (s .ask .cap))) (isWhole s) false (eqb (s .ask .id) 0 || isFound s) (not (hasFree s))) (list-answer .result) (list-answer .ensures) _ _)
+    (put (listRows (not (capAllowed (s .ask .cap))) (walkCoherent s) false (eqb (s .ask .id) 0 || isFound s) (not (hasFree s))) (list-answer .result) (list-answer .ensures) _ _)
 
 pub match-end-spec : {M : Type 1} → statement M
 match-end-spec =

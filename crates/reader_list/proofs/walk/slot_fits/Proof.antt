@@ -6,8 +6,11 @@ use Rattle.reader_list.proofs.walk.slot_fits.Tie as tie
 rank-requires : tie.Need-rank-requires
 rank-requires c κs = search needs
 
+is-negative-requires : tie.Need-is-negative-requires
+is-negative-requires c κs = search needs
+
 returns : tie.Need-returns
-returns c = rw (c .before .rank .ensures .is)
+returns c = rw (c .before .is-negative .ensures, c .before .before .rank .ensures .is)
 
 pub slot-fits-spec : {M : Type 1} → statement M
-slot-fits-spec = tie.close (tie.spec rank-requires returns)
+slot-fits-spec = tie.close (tie.spec rank-requires is-negative-requires returns)

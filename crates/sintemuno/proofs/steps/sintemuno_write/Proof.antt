@@ -16,7 +16,7 @@ use Rattle.writer_send_buffer.specs.declared.samples.Admitted.{Admitted}
 use Rattle.writer_send_buffer.specs.Samples.{handed}
 use Rattle.writer_send_buffer.proofs.Cells.{flow, numbered, admitted-flow}
 use Rattle.writer_write.specs.InPlace.{Wrote, writeOf}
-use Rattle.writer_write.specs.Turns.{soundOf, putInAll, writerOf}
+use Rattle.writer_write.specs.Turns.{allCoherentAt, putInAll, writerOf}
 use Rattle.writer_steps.proofs.Cells.{proxy}
 use Rattle.writer_write.proofs.Writes.{wrote}
 use Rattle.writer_write.proofs.sound.all_sound.Symbol as look
@@ -31,7 +31,7 @@ use Rattle.sintemuno.proofs.steps.sintemuno_write.Statement as stated
 use Rattle.sintemuno.proofs.steps.sintemuno_write.Code as code
 
 abbrev looks : List ReaderProxy → List ℕ → Bool → Left2 Bool (List ReaderProxy) (List ℕ)
-looks hs u t = soundOf t hs u
+looks hs u t = allCoherentAt t hs u
 
 abbrev decides : WriterSendBuffer → List ℕ → List ℕ → List ℕ → Bool → Bool → Left2 Admitted (List ℕ) (List ℕ)
 decides f s l p opted t = handed (writerOf t f s l p opted)

@@ -7,14 +7,14 @@ use native.Mathlib.Omega.{arith}
 use borrow.Author.Needs.{needs}
 use borrow.Author.Tests.{lt-ltb, le-ltb, le-leb, lt-leb, eq-eqb, ne-eqb, not-false, not-true}
 use lib.ListN.{length, getD, take, drop}
-use Rattle.trace_lines.specs.Words.{Read, rest, bad, past, digits, numberIn, numberOf, restOf, readOf, numberTo, noNumber, nothing, isDigit}
+use Rattle.trace_lines.specs.Words.{Read, rest, bad, pastKey, digitsRead, numberIn, numberOf, restOf, readOf, numberTo, notANumber, nothing, isDigit}
 use Rattle.sets.proofs.Loops.{here, done}
 use Rattle.trace_lines.proofs.Laws.{past-more, past-other, past-short, past-all, digit-low, digit-high, digits-more, digits-long, digits-other, digits-end, to-is, fits-more, fits-one, to-small, first-fits}
 use Rattle.trace_lines.proofs.Place.key.Statement.{statement}
 use Rattle.trace_lines.proofs.Place.key.Tie as tie
 
 abbrev Inv-loop : tie.InvT-loop
-Inv-loop s k at left j₀ j = (j ≤ length k) × (j ≤ left) × (past k (drop at s) ≡ past (drop j k) (drop (at + j) s))
+Inv-loop s k at left j₀ j = (j ≤ length k) × (j ≤ left) × (pastKey k (drop at s) ≡ pastKey (drop j k) (drop (at + j) s))
 
 abbrev μ-loop : tie.MeasureT-loop
 μ-loop s k at left j₀ j = length k - j

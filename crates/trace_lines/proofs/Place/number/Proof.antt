@@ -7,14 +7,14 @@ use native.Mathlib.Omega.{arith}
 use borrow.Author.Needs.{needs}
 use borrow.Author.Tests.{lt-ltb, le-ltb, le-leb, lt-leb, eq-eqb, ne-eqb, not-false, not-true}
 use lib.ListN.{length, getD, take, drop}
-use Rattle.trace_lines.specs.Words.{Read, rest, bad, past, digits, numberIn, numberOf, restOf, readOf, numberTo, noNumber, nothing, isDigit}
+use Rattle.trace_lines.specs.Words.{Read, rest, bad, pastKey, digitsRead, numberIn, numberOf, restOf, readOf, numberTo, notANumber, nothing, isDigit}
 use Rattle.sets.proofs.Loops.{here, done}
 use Rattle.trace_lines.proofs.Laws.{past-more, past-other, past-short, past-all, digit-low, digit-high, digits-more, digits-long, digits-other, digits-end, to-is, fits-more, fits-one, to-small, first-fits}
 use Rattle.trace_lines.proofs.Place.number.Statement.{statement}
 use Rattle.trace_lines.proofs.Place.number.Tie as tie
 
 abbrev Inv-loop : tie.InvT-loop
-Inv-loop s at b v₀ left₀ i₀ v left i = (i ≤ length s) × (left ≤ 18) × ((v + 1) * 10 ^ left ≤ 10000000000000000000) × (numberIn (drop at s) ≡ digits left v (drop i s))
+Inv-loop s at b v₀ left₀ i₀ v left i = (i ≤ length s) × (left ≤ 18) × ((v + 1) * 10 ^ left ≤ 10000000000000000000) × (numberIn (drop at s) ≡ digitsRead left v (drop i s))
 
 abbrev μ-loop : tie.MeasureT-loop
 μ-loop s at b v₀ left₀ i₀ v left i = length s - i

@@ -7,10 +7,10 @@ use native.Mathlib.Omega.{arith}
 use borrow.Author.Needs.{needs}
 use borrow.Author.Tests.{lt-ltb, le-ltb, le-leb, lt-leb, eq-eqb, ne-eqb, not-false, not-true}
 use lib.ListN.{length, getD, take, drop, set, length-set, replicate, length-replicate, getD-replicate}
-use Rattle.trace_lines.specs.Words.{Read, rest, bad, past, digits, numberIn, numberOf, restOf, readOf, numberTo, noNumber, nothing, isDigit}
+use Rattle.trace_lines.specs.Words.{Read, rest, bad, pastKey, digitsRead, numberIn, numberOf, restOf, readOf, numberTo, notANumber, nothing, isDigit}
 use Rattle.sets.proofs.Loops.{here, done, upto, upto-more, upto-all}
 use Rattle.trace_lines.proofs.Laws.{past-more, past-other, past-short, past-all, digit-low, digit-high, digits-more, digits-long, digits-other, digits-end, to-is, fits-more, fits-one, to-small, first-fits}
-use Rattle.trace_lines.specs.Sets.{Members, these, none, also, listedIn, setOf, Listing}
+use Rattle.trace_lines.specs.Sets.{Members, these, none, also, listedIn, setSaid, Listing}
 use Rattle.trace_lines.proofs.SetLaws.{prefixed, prefixed-none, prefixed-more, list-bad, list-low, list-end, list-other, list-more, none-listed, some-listed, told-filled}
 use Rattle.trace_lines.proofs.Place.set_into.Statement.{statement}
 use Rattle.trace_lines.proofs.Place.set_into.Tie as tie
@@ -36,7 +36,7 @@ returns-3 c =
     let if2 = c .before .before .before .before .if2 in
     let numbers-in = c .before .before .numbers-in in
     let a = args in
-    let e : setOf (length (a .room .now)) (a .least) (restOf (a .s .now) (a .self)) ≡ listedIn (length (a .room .now)) (a .least) (drop (a .self .at) (a .s .now)) = rw
+    let e : setSaid (length (a .room .now)) (a .least) (restOf (a .s .now) (a .self)) ≡ listedIn (length (a .room .now)) (a .least) (drop (a .self .at) (a .s .now)) = rw
     (not-false (args .self .ok) (if1 .left), here (a .s .now) (a .self .at) (if2 .left)) refl in
     rw e (numbers-in .ensures)
 

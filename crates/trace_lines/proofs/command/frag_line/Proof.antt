@@ -6,7 +6,7 @@ use mathlib.Core.List.{List}
 use lib.ListN.{length}
 use borrow.Author.Tests.{not-true, not-false}
 use Rattle.trace_lines.specs.Words.{Rest, Read, Two, numberOf, afterKey, field, two, restOf, pairOf, bytes}
-use Rattle.trace_lines.specs.Sets.{setOf}
+use Rattle.trace_lines.specs.Sets.{setSaid}
 use Rattle.trace_lines.specs.Lines.{Said, op-new, op-match, op-write, op-ack, op-sent, op-frag, op-evict, unknown, commandOf}
 use Rattle.trace_lines.specs.declared.command.Command.the-variants.{Ack, Frag}
 use Rattle.trace_lines.proofs.LineLaws.{two-is, four-is, set-is, set-said, set-not, first-is, first-not, plain-none, cleared, short-is, long-is, given-as}
@@ -57,7 +57,7 @@ returns c =
     let l = set in
     let n = length (a .room .now) in
     given-as n _ _ (set-is (a .s .now) (start .result) (start .ensures) (bytes "op=frag reader=") (bytes " seq=") (bytes " set=") (p .result) (k .result) (λ (x : ℕ). 0) op-frag n (p .ensures) (k .ensures))
-    (set-not n (l .result) _ (op-frag (p .result .first) (p .result .second)) (Frag (p .result .first) (p .result .second)) (λ (x : List ℕ). refl) (λ (x : List ℕ). refl) (setOf n 0 (restOf (a .s .now) (k .result)))
+    (set-not n (l .result) _ (op-frag (p .result .first) (p .result .second)) (Frag (p .result .first) (p .result .second)) (λ (x : List ℕ). refl) (λ (x : List ℕ). refl) (setSaid n 0 (restOf (a .s .now) (k .result)))
     (l .ensures) (not-true (set .result .ok) (c .if1 .taken)))
 
 same-length-2 : tie.Need-same-length-2
@@ -76,7 +76,7 @@ returns-2 c =
     let l = set in
     let n = length (a .room .now) in
     given-as n _ _ (set-is (a .s .now) (start .result) (start .ensures) (bytes "op=frag reader=") (bytes " seq=") (bytes " set=") (p .result) (k .result) (λ (x : ℕ). 0) op-frag n (p .ensures) (k .ensures))
-    (set-said n (l .result) _ (op-frag (p .result .first) (p .result .second)) (Frag (p .result .first) (p .result .second)) (λ (x : List ℕ). refl) (λ (x : List ℕ). refl) (setOf n 0 (restOf (a .s .now) (k .result)))
+    (set-said n (l .result) _ (op-frag (p .result .first) (p .result .second)) (Frag (p .result .first) (p .result .second)) (λ (x : List ℕ). refl) (λ (x : List ℕ). refl) (setSaid n 0 (restOf (a .s .now) (k .result)))
     (l .ensures) (not-false (set .result .ok) (c .if1 .left)))
 
 pub frag-line-spec : {M : Type 1} → statement M

@@ -3,7 +3,7 @@ use Prim.Native.Nat.{ℕ}
 use mathlib.Core.Path.{_≡_, refl, sym, ap, subst, _∙_}
 use lib.ListN.{length}
 use Rattle.numbers.specs.Promise.{Gives1}
-use Rattle.trace_lines.specs.Lines.{Said, op-new, op-match, op-write, op-ack, op-sent, op-frag, op-evict, unknown, commandOf, orElse, newOf, matchOf, writeOf, sentOf, evictOf, plainOf, ackOf, fragOf, said, answered}
+use Rattle.trace_lines.specs.Lines.{Said, op-new, op-match, op-write, op-ack, op-sent, op-frag, op-evict, unknown, commandOf, orElse, newSaid, matchSaid, writeSaid, sentSaid, evictSaid, plainSaid, ackSaid, fragSaid, said, commandLeft}
 use Rattle.trace_lines.proofs.LineLaws.{two-is, four-is, set-is, set-said, set-not, first-is, first-not, plain-none, cleared, short-is, long-is, given-as}
 use borrow.Author.Needs.{needs}
 use Rattle.trace_lines.proofs.command.read_line.Statement.{statement}
@@ -47,8 +47,8 @@ returns-2 c =
     let n = length (a .room .now) in
     let p = c .before .before .before .before .before .before .plain-line in
     let k = c .before .before .before .before .before .is-known in
-    let e = first-is (plainOf s) (orElse (ackOf n s) (fragOf n s)) (p .result) (k .result) (p .ensures) (k .ensures) (c .before .before .before .before .if2 .taken) ∙ short-is n s (c .before .before .before .before .before .before .before .if1 .left) in
-    rw (p .ensures) (given-as n (plainOf s) (said n s) e (cleared n (plainOf s) _ (c .before .before .clear2 .ensures) (plain-none s)))
+    let e = first-is (plainSaid s) (orElse (ackSaid n s) (fragSaid n s)) (p .result) (k .result) (p .ensures) (k .ensures) (c .before .before .before .before .if2 .taken) ∙ short-is n s (c .before .before .before .before .before .before .before .if1 .left) in
+    rw (p .ensures) (given-as n (plainSaid s) (said n s) e (cleared n (plainSaid s) _ (c .before .before .clear2 .ensures) (plain-none s)))
 
 ack-line-requires : tie.Need-ack-line-requires
 ack-line-requires c κs = search needs
@@ -67,9 +67,9 @@ returns-3 c =
     let p = c .before .before .before .before .before .before .before .before .plain-line in
     let k = c .before .before .before .before .before .before .before .is-known in
     let q = c .before .before .before .before .ack-line in
-    let e = first-not (plainOf s) (orElse (ackOf n s) (fragOf n s)) (p .result) (k .result) (p .ensures) (k .ensures) (c .before .before .before .before .before .before .if2 .left) ∙ short-is n s (c .before .before .before .before .before .before .before .before .before .if1 .left) in
-    let f = first-is (ackOf n s) (fragOf n s) (q .result) (c .before .is-known2 .result) (q .ensures .result) (c .before .is-known2 .ensures) (c .if3 .taken) in
-    given-as n (ackOf n s) (said n s) (f ∙ e) (q .ensures)
+    let e = first-not (plainSaid s) (orElse (ackSaid n s) (fragSaid n s)) (p .result) (k .result) (p .ensures) (k .ensures) (c .before .before .before .before .before .before .if2 .left) ∙ short-is n s (c .before .before .before .before .before .before .before .before .before .if1 .left) in
+    let f = first-is (ackSaid n s) (fragSaid n s) (q .result) (c .before .is-known2 .result) (q .ensures .result) (c .before .is-known2 .ensures) (c .if3 .taken) in
+    given-as n (ackSaid n s) (said n s) (f ∙ e) (q .ensures)
 
 frag-line-requires : tie.Need-frag-line-requires
 frag-line-requires c κs = search needs
@@ -95,9 +95,9 @@ returns-4 c =
     let k = is-known in
     let q = ack-line in
     let o = is-known2 in
-    let e = first-not (plainOf s) (orElse (ackOf n s) (fragOf n s)) (p .result) (k .result) (p .ensures) (k .ensures) (if2 .left) ∙ short-is n s (if1 .left) in
-    let f = first-not (ackOf n s) (fragOf n s) (q .result) (o .result) (q .ensures .result) (o .ensures) (if3 .left) in
-    given-as n (fragOf n s) (said n s) (f ∙ e) (subst (λ (m : ℕ). Gives1 (frag-line .result) (frag-line .last .1 .0) (answered m (fragOf m s))) (q .kept .1 .0) (frag-line .ensures))
+    let e = first-not (plainSaid s) (orElse (ackSaid n s) (fragSaid n s)) (p .result) (k .result) (p .ensures) (k .ensures) (if2 .left) ∙ short-is n s (if1 .left) in
+    let f = first-not (ackSaid n s) (fragSaid n s) (q .result) (o .result) (q .ensures .result) (o .ensures) (if3 .left) in
+    given-as n (fragSaid n s) (said n s) (f ∙ e) (subst (λ (m : ℕ). Gives1 (frag-line .result) (frag-line .last .1 .0) (commandLeft m (fragSaid m s))) (q .kept .1 .0) (frag-line .ensures))
 
 pub read-line-spec : {M : Type 1} → statement M
 read-line-spec =

@@ -7,7 +7,7 @@ use native.Mathlib.Omega.{arith}
 use borrow.Author.Needs.{needs}
 use borrow.Author.Tests.{lt-ltb, le-ltb, le-leb, lt-leb, eq-eqb, ne-eqb, not-false, not-true}
 use lib.ListN.{length, getD, take, drop, set, length-set, replicate, length-replicate, getD-replicate}
-use Rattle.trace_lines.specs.Words.{Read, rest, bad, past, digits, numberIn, numberOf, restOf, readOf, numberTo, noNumber, nothing, isDigit}
+use Rattle.trace_lines.specs.Words.{Read, rest, bad, pastKey, digitsRead, numberIn, numberOf, restOf, readOf, numberTo, notANumber, nothing, isDigit}
 use Rattle.sets.proofs.Loops.{here, done, upto, upto-more, upto-all}
 use Rattle.trace_lines.proofs.Laws.{past-more, past-other, past-short, past-all, digit-low, digit-high, digits-more, digits-long, digits-other, digits-end, to-is, fits-more, fits-one, to-small, first-fits}
 use Rattle.trace_lines.specs.Sets.{Members, these, none, also, listedIn, Listing}

@@ -8,8 +8,8 @@ use native.Mathlib.Omega.{arith}
 use lib.ListN.{length, take, drop, getD, set}
 use borrow.Author.Tests.{lt-ltb, le-ltb, eq-eqb, ne-eqb}
 use Rattle.numbers.specs.Promise.{Left1, Left2, Left3, Gives1, Gives2, Gives3}
-use Rattle.trace_readers.specs.State.{begun, refusedBy, incoherent, notUnderstood, withFlow, readerIn, withReader}
-use Rattle.trace_readers.proofs.FragLaws.{none-asked, many-asked, above-asked, these-asked, ask-asked, ask-refused, ask-done, frag-large, frag-small, frag-line}
+use Rattle.trace_readers.specs.State.{traceBegun, refusedBy, incoherent, notUnderstood, traceWithFlow, readerIn, withReader}
+use Rattle.trace_readers.proofs.FragLaws.{none-asked, many-asked, above-asked, these-asked, frag-large, frag-small, frag-line}
 use Rattle.rtps_reader_proxy.proofs.FragCalls.{too-high}
 use Rattle.number_sets.specs.Bits.{members}
 use Rattle.number_sets.specs.Calls.{fragmentSet}

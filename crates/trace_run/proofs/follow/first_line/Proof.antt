@@ -8,7 +8,7 @@ use native.Mathlib.Omega.{arith}
 use lib.ListN.{length, take, drop, getD, set}
 use borrow.Author.Tests.{lt-ltb, le-ltb, eq-eqb, ne-eqb}
 use Rattle.numbers.specs.Promise.{Left1, Left2, Left3, Gives1, Gives2, Gives3}
-use Rattle.trace_readers.specs.State.{begun, refusedBy, incoherent, notUnderstood, withFlow, readerIn, withReader}
+use Rattle.trace_readers.specs.State.{traceBegun, refusedBy, incoherent, notUnderstood, traceWithFlow, readerIn, withReader}
 use Rattle.trace_run.proofs.FollowLaws.{other-first, other-later, gives-as, ack-arm, frag-arm, follow-first, follow-later}
 use Rattle.trace_lines.specs.declared.command.Command.{Command}
 use Rattle.trace_readers.specs.declared.state.Trace.{Trace}
@@ -16,7 +16,7 @@ use Rattle.trace_readers.specs.declared.state.Followed.{Followed}
 use Rattle.trace_run.specs.Writes.{writeLine}
 use Rattle.trace_readers.specs.Requests.{ackLine, sentLine}
 use Rattle.trace_readers.specs.Fragments.{fragLine}
-use Rattle.trace_run.specs.Follow.{noRoom, inLarge, inBoth, inStore, firstBy, laterBy, counted}
+use Rattle.trace_run.specs.Follow.{noRoom, inLarge, inBoth, inStore, firstBy, laterBy, firstNumbers}
 use borrow.Author.Needs.{needs}
 use Rattle.trace_run.proofs.follow.first_line.Statement.{statement}
 use Rattle.trace_run.proofs.follow.first_line.Tie as tie

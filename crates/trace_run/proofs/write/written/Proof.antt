@@ -8,9 +8,9 @@ use native.Mathlib.Omega.{arith}
 use lib.ListN.{length, take, drop, getD, set}
 use borrow.Author.Tests.{lt-ltb, le-ltb, eq-eqb, ne-eqb}
 use Rattle.numbers.specs.Promise.{Left1, Left2, Left3, Gives1, Gives2, Gives3}
-use Rattle.trace_readers.specs.State.{begun, refusedBy, incoherent, notUnderstood, withFlow, readerIn, withReader, ownAnswer}
+use Rattle.trace_readers.specs.State.{traceBegun, refusedBy, incoherent, notUnderstood, traceWithFlow, readerIn, withReader, ownAnswer}
 use Rattle.trace_run.proofs.WriteLaws.{not-told, is-told, told-both, admit-part, write-refused, admit-refused, write-done, write-store, write-large, write-line}
-use Rattle.trace_run.specs.Writes.{bothOk}
+use Rattle.trace_run.specs.Writes.{bothCoherent}
 use borrow.Author.Needs.{needs}
 use Rattle.trace_run.proofs.write.written.Statement.{statement}
 use Rattle.trace_run.proofs.write.written.Tie as tie

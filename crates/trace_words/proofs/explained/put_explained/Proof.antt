@@ -3,7 +3,7 @@ use mathlib.Core.Path.{_∙_}
 use mathlib.Core.List.{[], _∷_, _++_}
 use Rattle.trace_lines.specs.Words.{bytes}
 use Rattle.trace_text.proofs.Puts.{puts}
-use Rattle.trace_words.specs.Words.{heading, numbered, figures}
+use Rattle.trace_words.specs.Words.{heading, answerWords, figures}
 use borrow.Author.Needs.{needs}
 use Rattle.trace_words.proofs.explained.put_explained.Statement.{statement}
 use Rattle.trace_words.proofs.explained.put_explained.Tie as tie
@@ -57,8 +57,8 @@ returns c =
     let put-figures = put-figures′ in
     let put-byte = put-byte′ in
     (puts (args .at) (put-heading .result) (put-byte .result) (heading (args .lines) (args .line .now) (args .long))
-    ((numbered (args .answer)) ++ ((10 ∷ bytes "    ") ++ ((figures (args .last) (args .first) (args .acked)) ++ ((10 ∷ []))))) (args .out .now) (put-heading .last .0) (put-byte .last .0) (put-heading .ensures)
-    (puts (put-heading .result) (put-numbered .result) (put-byte .result) (numbered (args .answer)) ((10 ∷ bytes "    ") ++ ((figures (args .last) (args .first) (args .acked)) ++ ((10 ∷ [])))) (put-heading .last .0)
+    ((answerWords (args .answer)) ++ ((10 ∷ bytes "    ") ++ ((figures (args .last) (args .first) (args .acked)) ++ ((10 ∷ []))))) (args .out .now) (put-heading .last .0) (put-byte .last .0) (put-heading .ensures)
+    (puts (put-heading .result) (put-numbered .result) (put-byte .result) (answerWords (args .answer)) ((10 ∷ bytes "    ") ++ ((figures (args .last) (args .first) (args .acked)) ++ ((10 ∷ [])))) (put-heading .last .0)
     (put-numbered .last .0) (put-byte .last .0) (put-numbered .ensures)
     (puts (put-numbered .result) (put-text .result) (put-byte .result) (10 ∷ bytes "    ") ((figures (args .last) (args .first) (args .acked)) ++ ((10 ∷ []))) (put-numbered .last .0) (put-text .last .0)
     (put-byte .last .0) (put-text .ensures)

@@ -4,7 +4,7 @@ use mathlib.Core.List.{_++_}
 use Rattle.trace_lines.specs.Words.{bytes}
 use Rattle.trace_text.specs.Answers.{decimal}
 use Rattle.trace_text.proofs.Puts.{puts}
-use Rattle.trace_words.specs.Words.{shown, rest}
+use Rattle.trace_words.specs.Words.{shown, dots}
 use borrow.Author.Needs.{needs}
 use Rattle.trace_words.proofs.explained.put_heading.Statement.{statement}
 use Rattle.trace_words.proofs.explained.put_heading.Tie as tie
@@ -48,9 +48,9 @@ returns c =
     let put-text = c .before .before .before .before .before .before .before .before .before .before .put-text in
     let put-line = c .before .before .before .before .before .before .put-line in
     let put-rest = c .before .before .put-rest in
-    (puts (args .at) (put-field .result) (put-rest .result) (bytes "line " ++ decimal (args .lines)) ((bytes ": ") ++ ((shown (args .line .now)) ++ ((rest (args .long))))) (args .out .now) (put-field .last .0) (put-rest .last .0) (put-field .ensures)
-    (puts (put-field .result) (put-text .result) (put-rest .result) (bytes ": ") ((shown (args .line .now)) ++ ((rest (args .long)))) (put-field .last .0) (put-text .last .0) (put-rest .last .0) (put-text .ensures)
-    (puts (put-text .result) (put-line .result) (put-rest .result) (shown (args .line .now)) ((rest (args .long))) (put-text .last .0) (put-line .last .0) (put-rest .last .0) (put-line .ensures) (put-rest .ensures))))
+    (puts (args .at) (put-field .result) (put-rest .result) (bytes "line " ++ decimal (args .lines)) ((bytes ": ") ++ ((shown (args .line .now)) ++ ((dots (args .long))))) (args .out .now) (put-field .last .0) (put-rest .last .0) (put-field .ensures)
+    (puts (put-field .result) (put-text .result) (put-rest .result) (bytes ": ") ((shown (args .line .now)) ++ ((dots (args .long)))) (put-field .last .0) (put-text .last .0) (put-rest .last .0) (put-text .ensures)
+    (puts (put-text .result) (put-line .result) (put-rest .result) (shown (args .line .now)) ((dots (args .long))) (put-text .last .0) (put-line .last .0) (put-rest .last .0) (put-line .ensures) (put-rest .ensures))))
 
 pub put-heading-spec : {M : Type 1} → statement M
 put-heading-spec =

@@ -3,7 +3,7 @@ use mathlib.Core.Path.{refl}
 use mathlib.Core.List.{[]}
 use Rattle.trace_lines.specs.Words.{bytes}
 use Rattle.trace_text.proofs.Puts.{put-as}
-use Rattle.trace_words.specs.Words.{rest}
+use Rattle.trace_words.specs.Words.{dots}
 use borrow.Author.Needs.{needs}
 use Rattle.trace_words.proofs.shown.put_rest.Statement.{statement}
 use Rattle.trace_words.proofs.shown.put_rest.Tie as tie
@@ -23,12 +23,12 @@ same-length c = search needs
 returns : tie.Need-returns
 returns c =
     let args = c .before .before .before .before .before .before .before .args in
-    put-as (args .at) (args .out .now) (bytes "...") (rest (args .long)) (rw (c .before .before .before .before .before .if1 .taken) refl) (c .before .before .put-text .ensures)
+    put-as (args .at) (args .out .now) (bytes "...") (dots (args .long)) (rw (c .before .before .before .before .before .if1 .taken) refl) (c .before .before .put-text .ensures)
 
 returns-2 : tie.Need-returns-2
 returns-2 c =
     let args = c .before .before .args in
-    put-as (args .at) (args .out .now) [] (rest (args .long)) (rw (c .if1 .left) refl) (record { result = refl; first = refl })
+    put-as (args .at) (args .out .now) [] (dots (args .long)) (rw (c .if1 .left) refl) (record { result = refl; first = refl })
 
 pub put-rest-spec : {M : Type 1} → statement M
 put-rest-spec =

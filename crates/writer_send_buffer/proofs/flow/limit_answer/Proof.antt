@@ -3,14 +3,14 @@ use borrow.Author.Needs.{needs}
 use Rattle.writer_send_buffer.proofs.flow.limit_answer.Statement.{statement}
 use Rattle.writer_send_buffer.proofs.flow.limit_answer.Tie as tie
 
-none-requires : tie.Need-none-requires
-none-requires c κs = search needs
+done-requires : tie.Need-done-requires
+done-requires c κs = search needs
 
-of-requires : tie.Need-of-requires
-of-requires c κs = search needs
+unless-requires : tie.Need-unless-requires
+unless-requires c κs = search needs
 
 returns : tie.Need-returns
-returns c = rw (c .of .ensures, c .before .none .ensures)
+returns c = rw (c .unless .ensures, c .before .done .ensures)
 
 pub limit-answer-spec : {M : Type 1} → statement M
-limit-answer-spec = tie.close (tie.spec none-requires of-requires returns)
+limit-answer-spec = tie.close (tie.spec done-requires unless-requires returns)

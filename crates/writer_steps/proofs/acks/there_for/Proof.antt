@@ -9,17 +9,19 @@ rank-requires c κs = search needs
 rank-requires-2 : tie.Need-rank-requires-2
 rank-requires-2 c κs = search needs
 
-none-requires : tie.Need-none-requires
-none-requires c κs = search needs
+done-requires : tie.Need-done-requires
+done-requires c κs = search needs
 
-of-requires : tie.Need-of-requires
-of-requires c κs = search needs
+unless-requires : tie.Need-unless-requires
+unless-requires c κs = search needs
 
 earlier-requires : tie.Need-earlier-requires
 earlier-requires c κs = search needs
 
 returns : tie.Need-returns
-returns c = rw (c .earlier .ensures, c .before .of .ensures, c .before .before .before .none .ensures, c .before .before .before .before .rank2 .ensures .is, c .before .before .before .before .before .rank .ensures .is)
+returns c = rw (c .earlier .ensures, c .before .unless .ensures, c .before .before .done .ensures, c .before .before .before .before .rank2 .ensures .is, c .before .before .before .before .before .rank .ensures .is)
 
 pub there-for-spec : {M : Type 1} → statement M
-there-for-spec = tie.close (tie.spec rank-requires rank-requires-2 none-requires of-requires earlier-requires returns)
+there-for-spec =
+    tie.close
+    (tie.spec rank-requires rank-requires-2 done-requires unless-requires earlier-requires returns)

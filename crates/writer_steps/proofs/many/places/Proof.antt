@@ -10,7 +10,7 @@ use Rattle.numbers.specs.declared.sequence_number.SequenceNumber.{SequenceNumbe
 use Rattle.rising.specs.Runs.{filled}
 use Rattle.writer_send_buffer.specs.declared.samples.Located.{Located}
 use Rattle.writer_send_buffer.specs.Samples.{locatedOf}
-use Rattle.writer_steps.specs.Many.{startOf, startFor, lengthFor}
+use Rattle.writer_steps.specs.Many.{locatedStart, startFor, lengthFor}
 use Rattle.writer_steps.proofs.Lies.{put-next, all-put}
 use Rattle.writer_steps.proofs.many.places.Statement.{statement}
 use Rattle.writer_steps.proofs.many.places.Tie as tie
@@ -70,7 +70,7 @@ loop-again c =
       omega arith,
       length-set (l .starts) (l .i) (c .before .start-of .result) ∙ l .inv .1,
       length-set (l .lengths) (l .i) (c .length-of .result) ∙ l .inv .2,
-      put-next (startFor (args .flow) (args .lens .now)) (args .numbers .now) (args .starts .now) (l .starts) (l .i) (c .before .start-of .result) (l .inv .3) here (pre .starts-fit) (c .before .start-of .ensures ∙ ap startOf at),
+      put-next (startFor (args .flow) (args .lens .now)) (args .numbers .now) (args .starts .now) (l .starts) (l .i) (c .before .start-of .result) (l .inv .3) here (pre .starts-fit) (c .before .start-of .ensures ∙ ap locatedStart at),
       put-next (lengthFor (args .flow) (args .lens .now)) (args .numbers .now) (args .lengths .now) (l .lengths) (l .i) (c .length-of .result) (l .inv .4) here (pre .lengths-fit) (c .length-of .ensures ∙ ap (λ (x : Located). x .length) at),
     )
 

@@ -11,10 +11,13 @@ use Rattle.writer_steps.proofs.many.send_many.Tie as tie
 is-coherent-store-requires : tie.Need-is-coherent-store-requires
 is-coherent-store-requires c κs = search needs
 
+coherence-requires : tie.Need-coherence-requires
+coherence-requires c κs = search needs
+
 returns : tie.Need-returns
 returns c =
-    let args = c .before .before .before .before .before .before .before .args in
-    many-unsound (args .flow) (args .room) (args .lens .now) (args .proxy) (args .unsent .now) (args .numbers .now) (args .starts .now) (args .lengths .now) (sym (c .before .is-coherent-store .ensures) ∙ not-true (c .before .is-coherent-store .result) (c .if1 .taken))
+    let args = c .before .before .before .before .before .before .before .before .args in
+    many-unsound (args .flow) (args .room) (args .lens .now) (args .proxy) (args .unsent .now) (args .numbers .now) (args .starts .now) (args .lengths .now) (c .coherence .result) (c .coherence .ensures) (sym (c .before .before .is-coherent-store .ensures) ∙ not-true (c .before .before .is-coherent-store .result) (c .before .if1 .taken))
 
 smaller-requires : tie.Need-smaller-requires
 smaller-requires c κs = search needs
@@ -122,6 +125,7 @@ send-many-spec =
     tie.close
     (tie.spec
     is-coherent-store-requires
+    coherence-requires
     returns
     smaller-requires
     smaller-requires-2

@@ -65,25 +65,29 @@ rank-requires-3 c κs = search needs
 mark-change-sent-requires : tie.Need-mark-change-sent-requires
 mark-change-sent-requires c κs = search needs
 
+done-requires : tie.Need-done-requires
+done-requires c κs = search needs
+
 -- src/send.rt:21:1
 same-length-2 : tie.Need-same-length-2
 same-length-2 c = search needs
 
 -- src/send.rt:21:1
+
 returns-2 : tie.Need-returns-2
 returns-2 c =
-    let args = c .before .before .before .before .before .before .before .before .before .before .before .before .before .before .before .before .before .before .args in
-    let first-change-sequence-number = c .before .before .before .before .before .before .before .before .before .before .before .before .before .before .before .before .first-change-sequence-number in
-    let first-unsent-change = c .before .before .before .before .before .before .before .before .before .before .before .before .before .before .first-unsent-change in
-    let earlier = c .before .before .before .before .before .before .before .before .before .before .before .earlier in
-    let if1 = c .before .before .before .before .before .before .before .before .before .if1 in
-    let rank = c .before .before .before .before .before .before .before .rank in
-    let rank2 = c .before .before .before .before .before .before .rank2 in
-    let rank3 = c .before .before .before .before .before .rank3 in
-    let mark-change-sent = c .before .before .before .mark-change-sent in
+    let args = c .before .before .before .before .before .before .before .before .before .before .before .before .before .before .before .before .before .before .before .args in
+    let first-change-sequence-number = c .before .before .before .before .before .before .before .before .before .before .before .before .before .before .before .before .before .first-change-sequence-number in
+    let first-unsent-change = c .before .before .before .before .before .before .before .before .before .before .before .before .before .before .before .first-unsent-change in
+    let earlier = c .before .before .before .before .before .before .before .before .before .before .before .before .earlier in
+    let if1 = c .before .before .before .before .before .before .before .before .before .before .if1 in
+    let rank = c .before .before .before .before .before .before .before .before .rank in
+    let rank2 = c .before .before .before .before .before .before .before .rank2 in
+    let rank3 = c .before .before .before .before .before .before .rank3 in
+    let mark-change-sent = c .before .before .before .before .mark-change-sent in
     send-done (args .flow) (args .proxy) (args .unsent .now) (earlier .result) (rw (earlier .ensures, first-unsent-change .ensures, first-change-sequence-number .ensures)) (if1 .left)
     (first-unsent-change .result .number) (ap (λ (x : NextNumber). x .number) (first-unsent-change .ensures)) (leb (rank .result) (rank3 .result) && leb (rank3 .result) (rank2 .result))
-    (rw (rank3 .ensures .is, rank2 .ensures .is, rank .ensures .is)) (mark-change-sent .result) (mark-change-sent .last .1 .0) (mark-change-sent .ensures)
+    (rw (rank3 .ensures .is, rank2 .ensures .is, rank .ensures .is)) (mark-change-sent .result) (mark-change-sent .last .1 .0) (mark-change-sent .ensures) (c .done .result) (c .done .ensures)
 
 pub send-first-spec : {M : Type 1} → statement M
 send-first-spec =
@@ -99,5 +103,6 @@ send-first-spec =
     rank-requires-2
     rank-requires-3
     mark-change-sent-requires
+    done-requires
     same-length-2
     returns-2)

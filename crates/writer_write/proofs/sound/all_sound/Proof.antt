@@ -6,8 +6,8 @@ use mir.Syntax.{w64}
 use Rattle.lent.proofs.Plain.{boolean, uint}
 use Rattle.lent.proofs.Through.{Turns, throughout}
 use Rattle.rtps_reader_proxy.specs.Reader.{fresh}
-use Rattle.rtps_reader_proxy.specs.Record.{headOf}
-use Rattle.writer_write.specs.Turns.{soundAt, soundOf}
+use Rattle.rtps_reader_proxy.specs.Record.{proxyOf}
+use Rattle.writer_write.specs.Turns.{coherentAt, allCoherentAt}
 use Rattle.writer_steps.proofs.Cells.{proxy}
 use Rattle.writer_write.proofs.Cells.{sound-reader}
 use Rattle.writer_write.proofs.Walks.{sounds}
@@ -23,5 +23,5 @@ unfolding code.routine tablesOf
 all-sound-spec 𝓤 H 𝓜 𝓖 𝓡 =
     entered 𝓤 H (tripleOf 𝓤 H (𝓖 .A) self.signature (self.spec 𝓤 H (𝓖 .A) (𝓜 .mem) (𝓡 .run)))
     (tables 𝓤 H 𝓜 𝓡 code.env .C) (tables 𝓤 H 𝓜 𝓡 code.env .Λ) key.name code.function (code.unfolded 𝓤 H 𝓜 𝓡)
-    (throughout proxy (uint w64) boolean sound-reader soundAt (λ hs u a. soundOf a hs u) sounds (headOf (fresh 0)) tt 𝓤 H (𝓖 .A) (givenOf 𝓤 H 𝓜 𝓖) turn.name (tablesOf 𝓤 H 𝓜 (tables 𝓤 H 𝓜 𝓡 code.env))
-    (cited 𝓤 H (Turns proxy (uint w64) boolean sound-reader soundAt (λ hs u a. soundOf a hs u) sounds (headOf (fresh 0)) tt 𝓤 H (𝓖 .A)) 𝓜 𝓡 code.env turn.name turn.routine code.calls-writer-write·sound·sound-at (turn-thm.met 𝓤 H 𝓜 𝓖 𝓡)))
+    (throughout proxy (uint w64) boolean sound-reader coherentAt (λ hs u a. allCoherentAt a hs u) sounds (proxyOf (fresh 0)) tt 𝓤 H (𝓖 .A) (givenOf 𝓤 H 𝓜 𝓖) turn.name (tablesOf 𝓤 H 𝓜 (tables 𝓤 H 𝓜 𝓡 code.env))
+    (cited 𝓤 H (Turns proxy (uint w64) boolean sound-reader coherentAt (λ hs u a. allCoherentAt a hs u) sounds (proxyOf (fresh 0)) tt 𝓤 H (𝓖 .A)) 𝓜 𝓡 code.env turn.name turn.routine code.calls-writer-write·sound·sound-at (turn-thm.met 𝓤 H 𝓜 𝓖 𝓡)))

@@ -4,27 +4,22 @@ use mathlib.Core.Bool.{true}
 use mathlib.Core.List.{[], _∷_}
 use borrow.Author.Needs.{needs}
 use borrow.Author.Tests.{not-true, not-false}
-use Rattle.numbers.specs.Refusals.{row, rowsOf, answerOf}
+use Rattle.numbers.specs.Refusals.{row, answerOf}
 use Rattle.writer_write.proofs.Writes.{admit-unsound, admit-sound}
 use Rattle.writer_write.proofs.write.admitted.Statement.{statement}
 use Rattle.writer_write.proofs.write.admitted.Tie as tie
 
-none-requires : tie.Need-none-requires
-none-requires c κs = search needs
-
-of-requires : tie.Need-of-requires
-of-requires c κs = search needs
+coherence-requires : tie.Need-coherence-requires
+coherence-requires c κs = search needs
 
 from-rank-requires : tie.Need-from-rank-requires
 from-rank-requires c κs = search needs
 
 returns : tie.Need-returns
 returns c =
-    let a = c .before .before .before .before .before .before .before .args in
-    let of = c .before .of in
-    let none = c .before .before .none in
-    let is : of .result ≡ answerOf (rowsOf (row 1 true ∷ [])) = rw (of .ensures, none .ensures) refl in
-    admit-unsound (a .flow) (a .store .now) (a .lens .now) (a .payload .now) (a .opted) (a .sound) (not-true (a .sound) (c .before .before .before .if1 .taken)) (of .result) is (c .from-rank .result) (c .from-rank .ensures)
+    let a = c .before .before .before .before .before .before .args in
+    let of = c .before .coherence in
+    admit-unsound (a .flow) (a .store .now) (a .lens .now) (a .payload .now) (a .opted) (a .sound) (not-true (a .sound) (c .before .before .if1 .taken)) (of .result) (of .ensures) (c .from-rank .result) (c .from-rank .ensures)
 
 with-sample-requires : tie.Need-with-sample-requires
 with-sample-requires c κs = search needs
@@ -45,8 +40,7 @@ pub admitted-spec : {M : Type 1} → statement M
 admitted-spec =
     tie.close
     (tie.spec
-    none-requires
-    of-requires
+    coherence-requires
     from-rank-requires
     returns
     with-sample-requires

@@ -43,7 +43,7 @@ returns-2 c =
     let a = ap (λ (w : WrittenNumbers). w .answer) m ∙ made-answer rows (theseNumbers (wideNumber (g .base)) ns) in
     let e = c .if1 .left in
     let s = ap (λ (w : WrittenNumbers). w .set) m ∙ made-set rows (theseNumbers (wideNumber (g .base)) ns) (ap (λ (w : Answer). w .number) (sym a) ∙ e) in
-    rw (done-is (made .result .answer) e, s) (is-done rows (made .result .answer) a notWrittenFragments (writtenFragments (theseFragments (g .base) ns)) e)
+    rw (done-is rows (made .result .answer) a e, s) (is-done rows (made .result .answer) a notWrittenFragments (writtenFragments (theseFragments (g .base) ns)) e)
 
 pub of-numbers-spec : {M : Type 1} → statement M
 of-numbers-spec = tie.close (tie.spec wide-requires of-numbers-requires returns returns-2)

@@ -5,7 +5,7 @@ use native.Mathlib.Omega.{arith}
 use borrow.Author.Tests.{ltb-false}
 use Rattle.numbers.specs.Refusals.{answerOf}
 use Rattle.numbers.proofs.Refused.{clear, done-is, is-refused, is-done, gives1}
-use Rattle.number_sets.specs.Calls.{sequenceSet, sequenceRows, notListed, allListed, listed}
+use Rattle.number_sets.specs.Calls.{sequenceSet, sequenceRows, notListed, allListed, membersListed}
 use Rattle.number_sets.specs.Bits.{members}
 use borrow.Author.Needs.{needs}
 use Rattle.number_sets.proofs.sequence_number_set.SequenceNumberSet.list_members.Statement.{
@@ -14,24 +14,19 @@ use Rattle.number_sets.proofs.sequence_number_set.SequenceNumberSet.lis
 use Rattle.number_sets.proofs.sequence_number_set.SequenceNumberSet.list_members.Tie as tie
 use Rattle.number_sets.proofs.sequence_number_set.SequenceNumberSet.list_members.Reads as reads
 use Rattle.number_sets.proofs.sequence_number_set.SequenceNumberSet.list_members.Lts as lts
-use Rattle.number_sets.proofs.sequence_number_set.SequenceNumberSet.rows.Reads as rows-reads
 use Rattle.number_sets.proofs.sequence_number_set.list_bits.Reads as list-bits-reads
-use Rattle.numbers.proofs.answer.Answer.of.Reads as of-reads
 use Rattle.numbers.proofs.sequence_number.SequenceNumber.rank.Reads as rank-reads
 
-rows-requires : tie.Need-rows-requires
-rows-requires c κs = search needs
-
-of-requires : tie.Need-of-requires
-of-requires c κs = search needs
+check-requires : tie.Need-check-requires
+check-requires c κs = search needs
 
 returns : tie.Need-returns
 returns c =
-    let g = c .before .before .before .before .before .args in
-    let a = c .before .before .of in
-    let e = a .ensures ∙ ap answerOf (c .before .before .before .rows .ensures) in
+    let g = c .before .before .before .before .args in
+    let a = c .before .before .check in
+    let e = a .ensures in
     let room = g .out .now in
-    gives1 _ room (notListed room (a .result)) (listed (sequenceRows (g .self)) (members (sequenceSet (g .self))) room)
+    gives1 _ room (notListed room (a .result)) (membersListed (sequenceRows (g .self)) (members (sequenceSet (g .self))) room)
     (is-refused (sequenceRows (g .self)) (a .result) e (notListed room) (allListed (members (sequenceSet (g .self))) room) (c .if1 .taken)) refl refl
 
 rank-requires : tie.Need-rank-requires
@@ -42,35 +37,34 @@ cast-count c = search needs
 
 list-bits-requires : tie.Need-list-bits-requires
 list-bits-requires c κs =
-    let a = c .before .before .before .before .before .before .before .of in
-    let g = c .before .before .before .before .before .before .before .before .before .before .args in
-    let e = a .ensures ∙ ap answerOf (c .before .before .before .before .before .before .before .before .rows .ensures) in
+    let a = c .before .before .before .before .before .before .before .check in
+    let g = c .before .before .before .before .before .before .before .before .before .args in
+    let e = a .ensures in
     let k = clear (sequenceRows (g .self)) (a .result) e (c .before .before .before .before .before .if1 .left) in
-    record { low = c .before .before .before .before .rank .ensures .small; few = ltb-false 256 (g .self .count) (k .bits) }
+    record { low = c .before .before .before .before .rank .ensures .small; few = ltb-false 256 (g .self .count) (k 3 refl) }
 
 same-length : tie.Need-same-length
 same-length c = search needs
 
 returns-2 : tie.Need-returns-2
 returns-2 c =
-    let g = c .before .before .before .before .before .before .before .before .before .before .before .before .before .args in
-    let a = c .before .before .before .before .before .before .before .before .before .before .of in
+    let g = c .before .before .before .before .before .before .before .before .before .before .before .before .args in
+    let a = c .before .before .before .before .before .before .before .before .before .before .check in
     let left = c .before .before .before .before .before .before .before .before .if1 .left in
-    let e = a .ensures ∙ ap answerOf (c .before .before .before .before .before .before .before .before .before .before .before .rows .ensures) in
+    let e = a .ensures in
     let room = g .out .now in
     let all = members (sequenceSet (g .self)) in
     let b = c .before .before .before .before .before .before .before .rank .ensures .is in
     let n = c .before .before .list-bits .ensures in
-    gives1 _ _ (allListed all room) (listed (sequenceRows (g .self)) all room)
+    gives1 _ _ (allListed all room) (membersListed (sequenceRows (g .self)) all room)
     (is-done (sequenceRows (g .self)) (a .result) e (notListed room) (allListed all room) left)
-    (rw (done-is (a .result) left, n .result, b) refl) (n .first ∙ rw b refl)
+    (rw (done-is (sequenceRows (g .self)) (a .result) e left, n .result, b) refl) (n .first ∙ rw b refl)
 
 pub list-members-spec : {M : Type 1} → statement M
 list-members-spec =
     tie.close
     (tie.spec
-    rows-requires
-    of-requires
+    check-requires
     returns
     rank-requires
     cast-count

@@ -15,8 +15,6 @@ use Rattle.number_sets.proofs.sequence_number_set.SequenceNumberSet.of_
 use Rattle.number_sets.proofs.sequence_number_set.SequenceNumberSet.empty.Reads as empty-reads
 use Rattle.number_sets.proofs.sequence_number_set.SequenceNumberSet.joined.Reads as joined-reads
 use Rattle.number_sets.proofs.sequence_number_set.beyond.Reads as beyond-reads
-use Rattle.numbers.proofs.answer.Answer.of.Reads as of-reads
-use Rattle.numbers.proofs.answer.Rows.none.Reads as none-reads
 use Rattle.numbers.proofs.sequence_number.SequenceNumber.is_negative.Reads as is-negative-reads
 use Rattle.numbers.proofs.sequence_number.SequenceNumber.rank.Reads as rank-reads
 
@@ -29,11 +27,11 @@ rank-requires c κs = search needs
 beyond-requires : tie.Need-beyond-requires
 beyond-requires c κs = search needs
 
-none-requires : tie.Need-none-requires
-none-requires c κs = search needs
+past-bits-requires : tie.Need-past-bits-requires
+past-bits-requires c κs = search needs
 
-of-requires : tie.Need-of-requires
-of-requires c κs = search needs
+set-answer-requires : tie.Need-set-answer-requires
+set-answer-requires c κs = search needs
 
 empty-requires : tie.Need-empty-requires
 empty-requires c κs = search needs
@@ -41,10 +39,10 @@ empty-requires c κs = search needs
 returns : tie.Need-returns
 returns c =
     let g = c .before .before .before .before .before .before .before .before .before .before .args in
-    let a = c .before .before .before .of in
+    let a = c .before .before .before .set-answer in
     let b = c .before .before .before .before .before .before .before .rank .ensures .is in
     let e : a .result ≡ answerOf (writtenRows (g .base) (g .numbers .now)) =
-    rw (a .ensures, c .before .before .before .before .before .none .ensures, c .before .before .before .before .before .before .beyond .ensures, b, c .before .before .before .before .before .before .before .before .is-negative .ensures) in
+    rw (a .ensures, c .before .before .before .before .before .beyond .ensures, c .before .before .before .before .before .before .past-bits .ensures, b, c .before .before .before .before .before .before .before .before .is-negative .ensures) in
     rw (c .empty .ensures) (is-refused (writtenRows (g .base) (g .numbers .now)) (a .result) e notWritten (written (theseNumbers (g .base) (g .numbers .now))) (c .before .if1 .taken))
 
 empty-requires-2 : tie.Need-empty-requires-2
@@ -56,12 +54,12 @@ joined-requires c κs = search needs
 returns-2 : tie.Need-returns-2
 returns-2 c =
     let g = c .before .before .before .before .before .before .before .before .before .before .before .args in
-    let a = c .before .before .before .before .of in
+    let a = c .before .before .before .before .set-answer in
     let left = c .before .before .if1 .left in
     let b = c .before .before .before .before .before .before .before .before .rank .ensures .is in
     let e : a .result ≡ answerOf (writtenRows (g .base) (g .numbers .now)) =
-    rw (a .ensures, c .before .before .before .before .before .before .none .ensures, c .before .before .before .before .before .before .before .beyond .ensures, b, c .before .before .before .before .before .before .before .before .before .is-negative .ensures) in
-    rw (done-is (a .result) left, c .joined .ensures, c .before .empty2 .ensures, joined-empty (g .base) (g .numbers .now)) (is-done (writtenRows (g .base) (g .numbers .now)) (a .result) e notWritten (written (theseNumbers (g .base) (g .numbers .now))) left)
+    rw (a .ensures, c .before .before .before .before .before .before .beyond .ensures, c .before .before .before .before .before .before .before .past-bits .ensures, b, c .before .before .before .before .before .before .before .before .before .is-negative .ensures) in
+    rw (done-is (writtenRows (g .base) (g .numbers .now)) (a .result) e left, c .joined .ensures, c .before .empty2 .ensures, joined-empty (g .base) (g .numbers .now)) (is-done (writtenRows (g .base) (g .numbers .now)) (a .result) e notWritten (written (theseNumbers (g .base) (g .numbers .now))) left)
 
 pub of-numbers-spec : {M : Type 1} → statement M
 of-numbers-spec =
@@ -69,9 +67,9 @@ of-numbers-spec =
     (tie.spec
     is-negative-requires
     rank-requires
+    past-bits-requires
     beyond-requires
-    none-requires
-    of-requires
+    set-answer-requires
     empty-requires
     returns
     empty-requires-2

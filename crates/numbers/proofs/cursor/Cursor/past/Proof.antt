@@ -1,17 +1,13 @@
 -- `past` meets its contract. Assumes nothing.
-use borrow.Author.Tests.{lt-ltb, le-ltb}
 use borrow.Author.Needs.{needs}
 use Rattle.numbers.proofs.cursor.Cursor.past.Statement.{statement}
 use Rattle.numbers.proofs.cursor.Cursor.past.Tie as tie
 
-add-t4 : tie.Need-add-t4
-add-t4 c = search needs
+past-requires : tie.Need-past-requires
+past-requires c κs = search needs
 
 returns : tie.Need-returns
-returns c = simp (lt-ltb _ _ (c .if1 .taken))
-
-returns-2 : tie.Need-returns-2
-returns-2 c = simp (le-ltb _ _ (c .if1 .left))
+returns c = rw (c .past .ensures)
 
 pub past-spec : {M : Type 1} → statement M
-past-spec = tie.close (tie.spec add-t4 returns returns-2)
+past-spec = tie.close (tie.spec past-requires returns)

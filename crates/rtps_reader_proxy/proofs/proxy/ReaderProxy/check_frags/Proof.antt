@@ -1,34 +1,37 @@
 -- `check_frags` meets its contract. Assumes nothing.
-use Prim.Native.Nat.{ℕ, _≤_, _<_, _+_, _-_, max}
-use mathlib.Core.Path.{_≡_, refl, sym, ap, _∙_}
-use mathlib.Core.List.{List, [], _∷_}
-use mathlib.Core.Bool.{Bool, not, false}
-use native.Mathlib.Omega.{arith}
-use lib.ListN.{length, take}
-use mathlib.Core.Bool.{_||_, _&&_}
-use lib.Dec.{leb, ltb, eqb}
-use Rattle.sets.specs.Sets.{empty}
-use Rattle.numbers.specs.Number.{rankOf}
-use Rattle.numbers.specs.Refusals.{row, rowsOf, answerOf}
-use Rattle.numbers.proofs.Refused.{clear}
-use Rattle.number_sets.specs.Bits.{members}
-use Rattle.rtps_reader_proxy.specs.Reader.{fragsRequested, fragSent}
-use Rattle.rtps_reader_proxy.specs.Fragments.{fragsOk, cannotAsk, noSlot}
 use borrow.Author.Needs.{needs}
 use Rattle.rtps_reader_proxy.proofs.proxy.ReaderProxy.check_frags.Statement.{statement}
 use Rattle.rtps_reader_proxy.proofs.proxy.ReaderProxy.check_frags.Tie as tie
 
-none-requires : tie.Need-none-requires
-none-requires c κs = search needs
-
 frags-ok-requires : tie.Need-frags-ok-requires
 frags-ok-requires c κs = search needs
 
-of-requires : tie.Need-of-requires
-of-requires c κs = search needs
+done-requires : tie.Need-done-requires
+done-requires c κs = search needs
+
+unless-requires : tie.Need-unless-requires
+unless-requires c κs = search needs
+
+unless-requires-2 : tie.Need-unless-requires-2
+unless-requires-2 c κs = search needs
+
+unless-requires-3 : tie.Need-unless-requires-3
+unless-requires-3 c κs = search needs
+
+unless-requires-4 : tie.Need-unless-requires-4
+unless-requires-4 c κs = search needs
 
 returns : tie.Need-returns
-returns c = rw (c .of .ensures, c .before .before .none .ensures, c .before .frags-ok .ensures)
+returns c = rw (c .unless4 .ensures, c .before .unless3 .ensures, c .before .before .unless2 .ensures, c .before .before .before .unless .ensures, c .before .before .before .before .done .ensures, c .before .before .before .before .before .frags-ok .ensures)
 
 pub check-frags-spec : {M : Type 1} → statement M
-check-frags-spec = tie.close (tie.spec none-requires frags-ok-requires of-requires returns)
+check-frags-spec =
+    tie.close
+    (tie.spec
+    frags-ok-requires
+    done-requires
+    unless-requires
+    unless-requires-2
+    unless-requires-3
+    unless-requires-4
+    returns)

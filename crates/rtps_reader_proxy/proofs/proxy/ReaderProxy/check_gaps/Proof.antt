@@ -1,25 +1,33 @@
 -- `check_gaps` meets its contract. Assumes nothing.
-use Prim.Native.Nat.{ℕ, _≤_, _<_, _+_, _-_, max}
-use mathlib.Core.Path.{_≡_, refl, sym, ap, _∙_}
-use mathlib.Core.List.{List, [], _∷_}
-use mathlib.Core.Bool.{Bool, not, false}
-use native.Mathlib.Omega.{arith}
-use lib.ListN.{length, take}
 use borrow.Author.Needs.{needs}
 use Rattle.rtps_reader_proxy.proofs.proxy.ReaderProxy.check_gaps.Statement.{statement}
 use Rattle.rtps_reader_proxy.proofs.proxy.ReaderProxy.check_gaps.Tie as tie
 
-none-requires : tie.Need-none-requires
-none-requires c κs = search needs
-
 gaps-ok-requires : tie.Need-gaps-ok-requires
 gaps-ok-requires c κs = search needs
 
-of-requires : tie.Need-of-requires
-of-requires c κs = search needs
+done-requires : tie.Need-done-requires
+done-requires c κs = search needs
+
+unless-requires : tie.Need-unless-requires
+unless-requires c κs = search needs
+
+unless-requires-2 : tie.Need-unless-requires-2
+unless-requires-2 c κs = search needs
+
+unless-requires-3 : tie.Need-unless-requires-3
+unless-requires-3 c κs = search needs
 
 returns : tie.Need-returns
-returns c = rw (c .of .ensures, c .before .before .none .ensures, c .before .gaps-ok .ensures)
+returns c = rw (c .unless3 .ensures, c .before .unless2 .ensures, c .before .before .unless .ensures, c .before .before .before .done .ensures, c .before .before .before .before .gaps-ok .ensures)
 
 pub check-gaps-spec : {M : Type 1} → statement M
-check-gaps-spec = tie.close (tie.spec none-requires gaps-ok-requires of-requires returns)
+check-gaps-spec =
+    tie.close
+    (tie.spec
+    gaps-ok-requires
+    done-requires
+    unless-requires
+    unless-requires-2
+    unless-requires-3
+    returns)

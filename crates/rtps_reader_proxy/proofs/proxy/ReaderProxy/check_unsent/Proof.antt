@@ -1,25 +1,23 @@
 -- `check_unsent` meets its contract. Assumes nothing.
-use Prim.Native.Nat.{ℕ, _≤_, _<_, _+_, _-_, max}
-use mathlib.Core.Path.{_≡_, refl, sym, ap, _∙_}
-use mathlib.Core.List.{List, [], _∷_}
-use mathlib.Core.Bool.{Bool, not, false}
-use native.Mathlib.Omega.{arith}
-use lib.ListN.{length, take}
 use borrow.Author.Needs.{needs}
 use Rattle.rtps_reader_proxy.proofs.proxy.ReaderProxy.check_unsent.Statement.{statement}
 use Rattle.rtps_reader_proxy.proofs.proxy.ReaderProxy.check_unsent.Tie as tie
 
-none-requires : tie.Need-none-requires
-none-requires c κs = search needs
-
 unsent-ok-requires : tie.Need-unsent-ok-requires
 unsent-ok-requires c κs = search needs
 
-of-requires : tie.Need-of-requires
-of-requires c κs = search needs
+done-requires : tie.Need-done-requires
+done-requires c κs = search needs
+
+unless-requires : tie.Need-unless-requires
+unless-requires c κs = search needs
+
+unless-requires-2 : tie.Need-unless-requires-2
+unless-requires-2 c κs = search needs
 
 returns : tie.Need-returns
-returns c = rw (c .of .ensures, c .before .before .none .ensures, c .before .unsent-ok .ensures)
+returns c = rw (c .unless2 .ensures, c .before .unless .ensures, c .before .before .done .ensures, c .before .before .before .unsent-ok .ensures)
 
 pub check-unsent-spec : {M : Type 1} → statement M
-check-unsent-spec = tie.close (tie.spec none-requires unsent-ok-requires of-requires returns)
+check-unsent-spec =
+    tie.close (tie.spec unsent-ok-requires done-requires unless-requires unless-requires-2 returns)

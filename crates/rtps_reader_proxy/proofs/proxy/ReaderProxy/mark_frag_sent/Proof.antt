@@ -5,7 +5,7 @@ use mathlib.Core.List.{List, [], _∷_}
 use mathlib.Core.Bool.{Bool, true, false, not, _&&_, _||_}
 use native.Mathlib.Omega.{arith}
 use Rattle.numbers.specs.Number.{rankOf}
-use Rattle.numbers.specs.Refusals.{row, rowsOf, answerOf}
+use Rattle.numbers.specs.Refusals.{row, answerOf}
 use Rattle.rtps_reader_proxy.specs.Reader.{fragSent}
 use Rattle.rtps_reader_proxy.proofs.FragCalls.{frags-refused, sent-done}
 use borrow.Author.Needs.{needs}

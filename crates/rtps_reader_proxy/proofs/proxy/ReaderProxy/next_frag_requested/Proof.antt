@@ -8,11 +8,11 @@ use Rattle.rtps_reader_proxy.proofs.proxy.ReaderProxy.next_frag_request
 next-requires : tie.Need-next-requires
 next-requires c κs = search needs
 
-none-requires : tie.Need-none-requires
-none-requires c κs = search needs
-
 frags-ok-requires : tie.Need-frags-ok-requires
 frags-ok-requires c κs = search needs
+
+found-requires : tie.Need-found-requires
+found-requires c κs = search needs
 
 next-piece-requires : tie.Need-next-piece-requires
 next-piece-requires c κs = search needs
@@ -21,9 +21,9 @@ returns : tie.Need-returns
 returns c =
     let args = c .before .before .before .before .before .before .args in
     let next = c .before .before .before .next in
-    let none = c .before .before .none in
-    let frags-ok = c .before .frags-ok in
-    c .next-piece .ensures ∙ rw (none .ensures, frags-ok .ensures) (next-piece (args .at) (args .self) (args .samples .now) (args .words .now) (next .result) (next .ensures))
+    let found = c .before .found in
+    let frags-ok = c .before .before .frags-ok in
+    c .next-piece .ensures ∙ rw (found .ensures, frags-ok .ensures) (next-piece (args .at) (args .self) (args .samples .now) (args .words .now) (next .result) (next .ensures))
 
 pub next-frag-requested-spec : {M : Type 1} → statement M
-next-frag-requested-spec = tie.close (tie.spec next-requires none-requires frags-ok-requires next-piece-requires returns)
+next-frag-requested-spec = tie.close (tie.spec next-requires frags-ok-requires found-requires next-piece-requires returns)

@@ -3,17 +3,17 @@ use borrow.Author.Needs.{needs}
 use Rattle.rtps_reader_proxy.proofs.proxy.ReaderProxy.next_is.Statement.{statement}
 use Rattle.rtps_reader_proxy.proofs.proxy.ReaderProxy.next_is.Tie as tie
 
-none-requires : tie.Need-none-requires
-none-requires c κs = search needs
-
 unsent-ok-requires : tie.Need-unsent-ok-requires
 unsent-ok-requires c κs = search needs
+
+found-requires : tie.Need-found-requires
+found-requires c κs = search needs
 
 of-requires : tie.Need-of-requires
 of-requires c κs = search needs
 
 returns : tie.Need-returns
-returns c = rw (c .of .ensures, c .before .before .none .ensures, c .before .unsent-ok .ensures)
+returns c = rw (c .of .ensures, c .before .found .ensures, c .before .before .unsent-ok .ensures)
 
 pub next-is-spec : {M : Type 1} → statement M
-next-is-spec = tie.close (tie.spec none-requires unsent-ok-requires of-requires returns)
+next-is-spec = tie.close (tie.spec unsent-ok-requires found-requires of-requires returns)

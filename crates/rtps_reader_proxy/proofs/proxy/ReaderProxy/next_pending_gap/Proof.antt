@@ -28,11 +28,11 @@ first-from-requires c κs = search needs
 first-gap-requires : tie.Need-first-gap-requires
 first-gap-requires c κs = search needs
 
-none-requires : tie.Need-none-requires
-none-requires c κs = search needs
-
 gaps-ok-requires : tie.Need-gaps-ok-requires
 gaps-ok-requires c κs = search needs
+
+found-requires : tie.Need-found-requires
+found-requires c κs = search needs
 
 of-requires : tie.Need-of-requires
 of-requires c κs = search needs
@@ -46,9 +46,9 @@ returns c =
     let rank2 = c .before .before .before .before .before .rank2 in
     let first-from = c .before .before .before .before .first-from in
     let first-gap = c .before .before .before .first-gap in
-    let none = c .before .before .none in
-    let gaps-ok = c .before .gaps-ok in
-    rw (c .of .ensures, none .ensures, gaps-ok .ensures)
+    let found = c .before .found in
+    let gaps-ok = c .before .before .gaps-ok in
+    rw (c .of .ensures, found .ensures, gaps-ok .ensures)
     (next-gap (args .at) (args .self) (args .gaps .now) (larger2 .result) (first-from .result) (first-gap .result)
     (larger2 .ensures ∙ ap (max (args .at .from)) (larger .ensures ∙ ap (max 1) (rank .ensures .is))) (first-from .ensures) (first-gap .ensures ∙ rw (rank2 .ensures .is)))
 
@@ -62,7 +62,7 @@ next-pending-gap-spec =
     rank-requires-2
     first-from-requires
     first-gap-requires
-    none-requires
     gaps-ok-requires
+    found-requires
     of-requires
     returns)

@@ -9,11 +9,11 @@ use mathlib.Core.Bool.{_||_, _&&_}
 use lib.Dec.{leb, ltb, eqb}
 use Rattle.sets.specs.Sets.{empty}
 use Rattle.numbers.specs.Number.{rankOf}
-use Rattle.numbers.specs.Refusals.{row, rowsOf, answerOf}
+use Rattle.numbers.specs.Refusals.{row, answerOf}
 use Rattle.numbers.proofs.Refused.{clear}
 use Rattle.number_sets.specs.Bits.{members}
 use Rattle.rtps_reader_proxy.specs.Reader.{fragsRequested, fragSent}
-use Rattle.rtps_reader_proxy.specs.Fragments.{fragsOk, cannotAsk, noSlot}
+use Rattle.rtps_reader_proxy.specs.Fragments.{fragsCoherent, cannotAsk, noSlot}
 use Rattle.rtps_reader_proxy.proofs.FragCalls.{repair-refused, repair-done}
 use borrow.Author.Needs.{needs}
 use Rattle.rtps_reader_proxy.proofs.proxy.ReaderProxy.repair_frags_requested.Statement.{statement}

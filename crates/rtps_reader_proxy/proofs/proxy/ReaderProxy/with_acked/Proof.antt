@@ -12,8 +12,11 @@ from-rank-requires c κs = search needs
 sub-self : tie.Need-sub-self
 sub-self c = search needs
 
+done-requires : tie.Need-done-requires
+done-requires c κs = search needs
+
 returns : tie.Need-returns
-returns c = rw (c .from-rank .ensures, c .before .excess .ensures)
+returns c = rw (c .done .ensures, c .before .from-rank .ensures, c .before .before .excess .ensures)
 
 pub with-acked-spec : {M : Type 1} → statement M
-with-acked-spec = tie.close (tie.spec excess-requires from-rank-requires sub-self returns)
+with-acked-spec = tie.close (tie.spec excess-requires from-rank-requires sub-self done-requires returns)

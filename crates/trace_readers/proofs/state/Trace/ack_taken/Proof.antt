@@ -8,7 +8,7 @@ use native.Mathlib.Omega.{arith}
 use lib.ListN.{length, take, drop, getD, set}
 use borrow.Author.Tests.{lt-ltb, le-ltb, eq-eqb, ne-eqb}
 use Rattle.numbers.specs.Promise.{Left1, Left2, Left3, Gives1, Gives2, Gives3}
-use Rattle.trace_readers.specs.State.{begun, refusedBy, incoherent, notUnderstood, withFlow, readerIn, withReader}
+use Rattle.trace_readers.specs.State.{traceBegun, refusedBy, incoherent, notUnderstood, traceWithFlow, readerIn, withReader}
 use Rattle.trace_readers.proofs.AckLaws.{asked-many, asked-set, ack-part, ack-large, ack-small, ack-line}
 use borrow.Author.Needs.{needs}
 use Rattle.trace_readers.proofs.state.Trace.ack_taken.Statement.{statement}

@@ -8,8 +8,8 @@ use native.Mathlib.Omega.{arith}
 use lib.ListN.{length, take, drop, getD, set}
 use borrow.Author.Tests.{lt-ltb, le-ltb, eq-eqb, ne-eqb}
 use Rattle.numbers.specs.Promise.{Left1, Left2, Left3, Gives1, Gives2, Gives3}
-use Rattle.trace_readers.specs.State.{begun, refusedBy, incoherent, notUnderstood, withFlow, readerIn, withReader}
-use Rattle.trace_readers.proofs.FragLaws.{none-asked, many-asked, above-asked, these-asked, ask-asked, ask-refused, ask-done, frag-large, frag-small, frag-line}
+use Rattle.trace_readers.specs.State.{traceBegun, refusedBy, incoherent, notUnderstood, traceWithFlow, readerIn, withReader}
+use Rattle.trace_readers.proofs.FragLaws.{none-asked, many-asked, above-asked, these-asked, frag-large, frag-small, frag-line}
 use Rattle.rtps_reader_proxy.proofs.FragCalls.{too-high}
 use Rattle.number_sets.specs.Bits.{members}
 use Rattle.number_sets.specs.Calls.{fragmentSet}
@@ -105,12 +105,12 @@ same-length-2 c = search needs
 
 returns-3 : tie.Need-returns-3
 returns-3 c =
-    let args = c .before .before .before .before .before .before .before .before .before .before .before .before .before .before .before .before .before .before .before .before .args in
-    let if1 = c .before .before .before .before .before .before .before .before .before .before .before .before .before .before .before .before .if1 in
-    let if2 = c .before .before .before .before .before .before .before .before .before .before .before .before .before .before .before .if2 in
-    let from-rank = c .before .before .before .before .before .before .before .before .before .before .before .before .before .before .from-rank in
-    let pieces = c .before .before .before .before .before .before .before .before .before .before .before .before .before .pieces in
-    let lookup-in-2 = c .before .before .before .before .before .before .before .before .before .before .before .lookup-in-2 in
+    let args = c .before .before .before .before .before .before .before .before .before .before .before .before .before .before .before .before .before .before .before .args in
+    let if1 = c .before .before .before .before .before .before .before .before .before .before .before .before .before .before .before .if1 in
+    let if2 = c .before .before .before .before .before .before .before .before .before .before .before .before .before .before .if2 in
+    let from-rank = c .before .before .before .before .before .before .before .before .before .before .before .before .before .from-rank in
+    let pieces = c .before .before .before .before .before .before .before .before .before .before .before .before .pieces in
+    let lookup-in-2 = c .before .before .before .before .before .before .before .before .before .before .lookup-in-2 in
     let is-first = c .before .before .before .before .before .before .before .before .before .is-first in
     let samples-at = c .before .before .before .before .before .before .before .before .samples-at in
     let words-at = c .before .before .before .before .before .before .before .words-at in

@@ -8,7 +8,7 @@ use native.Mathlib.Omega.{arith}
 use lib.ListN.{length, take, drop, getD, set}
 use borrow.Author.Tests.{lt-ltb, le-ltb, eq-eqb, ne-eqb}
 use Rattle.numbers.specs.Promise.{Left1, Left2, Left3, Gives1, Gives2, Gives3}
-use Rattle.trace_readers.specs.State.{begun, refusedBy, incoherent, notUnderstood, withFlow, readerIn, withReader}
+use Rattle.trace_readers.specs.State.{traceBegun, refusedBy, incoherent, notUnderstood, traceWithFlow, readerIn, withReader}
 use Rattle.trace_readers.proofs.SentLaws.{sent-asked, sent-refused, sent-done, sent-large, sent-line}
 use borrow.Author.Needs.{needs}
 use Rattle.trace_readers.proofs.state.Trace.sent_to.Statement.{statement}
@@ -72,25 +72,28 @@ with-flow-requires c κs = search needs
 with-reader-requires : tie.Need-with-reader-requires
 with-reader-requires c κs = search needs
 
+done-requires : tie.Need-done-requires
+done-requires c κs = search needs
+
 same-length-2 : tie.Need-same-length-2
 same-length-2 c = search needs
 
 returns-2 : tie.Need-returns-2
 returns-2 c =
-    let args = c .before .before .before .before .before .before .before .before .before .before .before .before .before .before .before .before .before .before .before .args in
-    let reader = c .before .before .before .before .before .before .before .before .before .before .before .before .before .before .before .before .before .reader in
-    let unsent-ok = c .before .before .before .before .before .before .before .before .before .before .before .before .before .before .before .unsent-ok in
-    let coherence = c .before .before .before .before .before .before .before .before .before .before .before .before .before .before .coherence in
-    let with-sent-frontier = c .before .before .before .before .before .before .before .before .before .before .before .before .with-sent-frontier in
-    let earlier = c .before .before .before .before .before .before .before .before .before .before .earlier in
-    let earlier2 = c .before .before .before .before .before .before .before .before .before .earlier2 in
-    let if1 = c .before .before .before .before .before .before .before .if1 in
-    let mark-change-sent = c .before .before .before .before .before .mark-change-sent in
-    let with-flow = c .before .with-flow in
+    let args = c .before .before .before .before .before .before .before .before .before .before .before .before .before .before .before .before .before .before .before .before .args in
+    let reader = c .before .before .before .before .before .before .before .before .before .before .before .before .before .before .before .before .before .before .reader in
+    let unsent-ok = c .before .before .before .before .before .before .before .before .before .before .before .before .before .before .before .before .unsent-ok in
+    let coherence = c .before .before .before .before .before .before .before .before .before .before .before .before .before .before .before .coherence in
+    let with-sent-frontier = c .before .before .before .before .before .before .before .before .before .before .before .before .before .with-sent-frontier in
+    let earlier = c .before .before .before .before .before .before .before .before .before .before .before .earlier in
+    let earlier2 = c .before .before .before .before .before .before .before .before .before .before .earlier2 in
+    let if1 = c .before .before .before .before .before .before .before .before .if1 in
+    let mark-change-sent = c .before .before .before .before .before .before .mark-change-sent in
+    let with-flow = c .before .before .with-flow in
     sent-done (args .first) (args .looked) (args .n) (args .self) (args .unsent .now) (earlier2 .result)
     (sent-asked (args .first) (args .looked) (args .n) (args .self) (args .unsent .now) (reader .result) (reader .ensures) (unsent-ok .result) (unsent-ok .ensures) (coherence .result) (coherence .ensures)
     (with-sent-frontier .result) (with-sent-frontier .ensures) (earlier .result) (earlier .ensures) (earlier2 .result) (earlier2 .ensures)) (if1 .left) (reader .result) (reader .ensures) (mark-change-sent .result)
-    (mark-change-sent .last .1 .0) (mark-change-sent .ensures) (with-sent-frontier .result) (with-sent-frontier .ensures) (with-flow .result) (with-flow .ensures) (c .with-reader .result) (c .with-reader .ensures)
+    (mark-change-sent .last .1 .0) (mark-change-sent .ensures) (with-sent-frontier .result) (with-sent-frontier .ensures) (with-flow .result) (with-flow .ensures) (c .before .with-reader .result) (c .before .with-reader .ensures) (c .done .result) (c .done .ensures)
 
 pub sent-to-spec : {M : Type 1} → statement M
 sent-to-spec =
@@ -108,5 +111,6 @@ sent-to-spec =
     mark-change-sent-requires
     with-flow-requires
     with-reader-requires
+    done-requires
     same-length-2
     returns-2)

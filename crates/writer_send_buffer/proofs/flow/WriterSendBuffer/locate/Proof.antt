@@ -9,16 +9,13 @@ use Rattle.writer_send_buffer.proofs.flow.WriterSendBuffer.locate.Tie a
 is-coherent-store-requires : tie.Need-is-coherent-store-requires
 is-coherent-store-requires c κs = search needs
 
-none-requires : tie.Need-none-requires
-none-requires c κs = search needs
-
-of-requires : tie.Need-of-requires
-of-requires c κs = search needs
+coherence-requires : tie.Need-coherence-requires
+coherence-requires c κs = search needs
 
 returns : tie.Need-returns
 returns c =
-    let coherent = c .before .before .before .is-coherent-store in
-    rw (c .of .ensures, c .before .none .ensures, sym (coherent .ensures) ∙ not-true (coherent .result) (c .before .before .if1 .taken))
+    let coherent = c .before .before .is-coherent-store in
+    rw (c .coherence .ensures, sym (coherent .ensures) ∙ not-true (coherent .result) (c .before .if1 .taken))
 
 located-requires : tie.Need-located-requires
 located-requires c κs = search needs
@@ -34,8 +31,7 @@ locate-spec =
     tie.close
     (tie.spec
     is-coherent-store-requires
-    none-requires
-    of-requires
+    coherence-requires
     returns
     located-requires
     returns-2)

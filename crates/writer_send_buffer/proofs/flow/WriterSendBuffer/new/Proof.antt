@@ -5,8 +5,8 @@ use Rattle.numbers.specs.Refusals.{answerOf, done}
 use Rattle.numbers.proofs.Refused.{is-refused, is-done, done-is}
 use Rattle.writer_send_buffer.specs.declared.limits.Limits.{Limits}
 use Rattle.writer_send_buffer.specs.declared.flow.Moved.{Moved}
-use Rattle.writer_send_buffer.specs.Flow.{allowed, counted, blank}
-use Rattle.writer_send_buffer.specs.Buffer.{limited, form, zeroed}
+use Rattle.writer_send_buffer.specs.Flow.{allowed, limitsCounted, blank}
+use Rattle.writer_send_buffer.specs.Buffer.{limited, flowForm, zeroed}
 use borrow.Author.Needs.{needs}
 use Rattle.writer_send_buffer.proofs.flow.WriterSendBuffer.new.Statement.{statement}
 use Rattle.writer_send_buffer.proofs.flow.WriterSendBuffer.new.Tie as tie
@@ -31,8 +31,8 @@ returns c =
     let limit-answer = c .before .before .before .limit-answer in
     let if1 = c .before .if1 in
     let q = limit-answer .ensures ∙ ap (λ (b : Bool). answerOf (limited (not b))) (are-allowed .ensures ∙ ap (λ (l : Limits). allowed l) (with-0-as-1 .ensures)) in
-    rw (c .formed .ensures) (is-refused {A = Moved} (limited (not (allowed (counted (args .limits))))) (limit-answer .result) q (λ no. record { answer = no; flow = zeroed })
-    (record { answer = done; flow = form (blank (args .kind) (counted (args .limits))) }) (if1 .taken))
+    rw (c .formed .ensures) (is-refused {A = Moved} (limited (not (allowed (limitsCounted (args .limits))))) (limit-answer .result) q (λ no. record { answer = no; flow = zeroed })
+    (record { answer = done; flow = flowForm (blank (args .kind) (limitsCounted (args .limits))) }) (if1 .taken))
 
 formed-requires-2 : tie.Need-formed-requires-2
 formed-requires-2 c κs = search needs
@@ -45,9 +45,9 @@ returns-2 c =
     let limit-answer = c .before .before .before .limit-answer in
     let if1 = c .before .if1 in
     let q = limit-answer .ensures ∙ ap (λ (b : Bool). answerOf (limited (not b))) (are-allowed .ensures ∙ ap (λ (l : Limits). allowed l) (with-0-as-1 .ensures)) in
-    rw (done-is (limit-answer .result) (if1 .left), c .formed2 .ensures, with-0-as-1 .ensures)
-    (is-done {A = Moved} (limited (not (allowed (counted (args .limits))))) (limit-answer .result) q (λ no. record { answer = no; flow = zeroed })
-    (record { answer = done; flow = form (blank (args .kind) (counted (args .limits))) }) (if1 .left))
+    rw (done-is (limited (not (allowed (limitsCounted (args .limits))))) (limit-answer .result) q (if1 .left), c .formed2 .ensures, with-0-as-1 .ensures)
+    (is-done {A = Moved} (limited (not (allowed (limitsCounted (args .limits))))) (limit-answer .result) q (λ no. record { answer = no; flow = zeroed })
+    (record { answer = done; flow = flowForm (blank (args .kind) (limitsCounted (args .limits))) }) (if1 .left))
 
 pub new-spec : {M : Type 1} → statement M
 new-spec =

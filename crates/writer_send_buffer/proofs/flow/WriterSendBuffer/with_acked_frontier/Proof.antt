@@ -2,7 +2,7 @@
 use mathlib.Core.Path.{ap}
 use Rattle.reader_list.specs.Slots.{frontierOf}
 use Rattle.writer_send_buffer.specs.Flow.{ahead}
-use Rattle.writer_send_buffer.specs.Buffer.{view, woken}
+use Rattle.writer_send_buffer.specs.Buffer.{flowView, woken}
 use Rattle.writer_send_buffer.proofs.Calls.{wakes}
 use borrow.Author.Needs.{needs}
 use Rattle.writer_send_buffer.proofs.flow.WriterSendBuffer.with_acked_frontier.Statement.{
@@ -41,7 +41,7 @@ returns c =
     let frontier-stored = c .before .before .frontier-stored in
     let unless-refused = c .before .unless-refused in
     rw (unless-refused .ensures, frontier-stored .ensures, frontier-wakes .ensures, rank .ensures)
-    (ap woken (wakes (args .self) (ahead (frontierOf (args .frontier)) (view (args .self))) (asked .result) (rw (rank2 .ensures .is, rank .ensures) at (asked .ensures)) _ _))
+    (ap woken (wakes (args .self) (ahead (frontierOf (args .frontier)) (flowView (args .self))) (asked .result) (rw (rank2 .ensures .is, rank .ensures) at (asked .ensures)) _ _))
 
 pub with-acked-frontier-spec : {M : Type 1} → statement M
 with-acked-frontier-spec =

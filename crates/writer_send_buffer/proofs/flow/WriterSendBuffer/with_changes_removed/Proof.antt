@@ -2,7 +2,7 @@
 use mathlib.Core.Path.{ap}
 use Rattle.numbers.specs.Number.{rankOf}
 use Rattle.writer_send_buffer.specs.Flow.{ahead}
-use Rattle.writer_send_buffer.specs.Buffer.{view, moved}
+use Rattle.writer_send_buffer.specs.Buffer.{flowView, moved}
 use Rattle.writer_send_buffer.proofs.Calls.{moves}
 use borrow.Author.Needs.{needs}
 use Rattle.writer_send_buffer.proofs.flow.WriterSendBuffer.with_changes_removed.Statement.{
@@ -40,7 +40,7 @@ returns c =
     let larger = c .before .before .larger in
     let formed = c .before .formed in
     rw (c .unless-refused .ensures, formed .ensures, larger .ensures, ranks .ensures .0, rank .ensures .is)
-    (ap moved (moves (args .self) (ahead (rankOf (args .before)) (view (args .self))) (asked .result) (rw (ranks .ensures .0, rank .ensures .is) at (asked .ensures)) _))
+    (ap moved (moves (args .self) (ahead (rankOf (args .before)) (flowView (args .self))) (asked .result) (rw (ranks .ensures .0, rank .ensures .is) at (asked .ensures)) _))
 
 pub with-changes-removed-spec : {M : Type 1} → statement M
 with-changes-removed-spec =

@@ -13,8 +13,8 @@ use Rattle.numbers.proofs.Refused.{is-refused, is-done, gives2, done-is}
 use Rattle.writer_send_buffer.specs.declared.flow.Numbered.{Numbered}
 use Rattle.writer_send_buffer.specs.declared.flow.WriterSendBuffer.{WriterSendBuffer}
 use Rattle.writer_send_buffer.specs.Flow.{admitted}
-use Rattle.writer_send_buffer.specs.Buffer.{view, form, noNumber}
-use Rattle.writer_send_buffer.specs.Samples.{writeRows, admitOf, handed, over, startOf, slotOf}
+use Rattle.writer_send_buffer.specs.Buffer.{flowView, flowForm, numberedNo}
+use Rattle.writer_send_buffer.specs.Samples.{writeRows, admitOf, handed, withBytes, slotStart, slotOf}
 use Rattle.writer_send_buffer.proofs.Slots.{slot-in}
 use Rattle.writer_send_buffer.proofs.Sound.{written-is, slot-below, next-slot}
 use borrow.Author.Needs.{needs}
@@ -25,15 +25,15 @@ use Rattle.writer_send_buffer.proofs.flow.WriterSendBuffer.with_sample.
 
 module _ (f : WriterSendBuffer) (s l p : List ℕ) (o : Bool) where
   abbrev refusal : Answer → Left3 Numbered WriterSendBuffer (List ℕ) (List ℕ)
-  refusal a = record { result = noNumber a; first = f; second = s; third = l }
+  refusal a = record { result = numberedNo a; first = f; second = s; third = l }
 
   abbrev written : Left3 Numbered WriterSendBuffer (List ℕ) (List ℕ)
   written =
       record {
         result = record { answer = done; number = numberAt (rankOf (f .last) + 1) };
-        first = form (admitted (view f) o);
-        second = over s (startOf (view f) (rankOf (f .last) + 1)) p;
-        third = set l (slotOf (view f) (rankOf (f .last) + 1)) (length p);
+        first = flowForm (admitted (flowView f) o);
+        second = withBytes s (slotStart (flowView f) (rankOf (f .last) + 1)) p;
+        third = set l (slotOf (flowView f) (rankOf (f .last) + 1)) (length p);
       }
 
 write-answer-requires : tie.Need-write-answer-requires
@@ -100,9 +100,9 @@ returns-2 c =
     let put-in = c .before .before .before .before .before .before .put-in in
     gives2 _ _ _ (handed (written f s l p o)) (handed (admitOf f s l p o))
     (ap handed (is-done (writeRows f (length s) l (length p) o) (write-answer .result) (write-answer .ensures) (refusal f s l p o) (written f s l p o) (if1 .left)))
-    (rw (done-is (write-answer .result) (if1 .left), c .before .after .ensures))
-    (put-in .ensures .0 ∙ rw (next-slot (view f) (rankOf (f .last)), rank .ensures .is) refl)
-    (put-in .ensures .1 ∙ rw (next-slot (view f) (rankOf (f .last)), rank .ensures .is) refl)
+    (rw (done-is (writeRows f (length s) l (length p) o) (write-answer .result) (write-answer .ensures) (if1 .left), c .before .after .ensures))
+    (put-in .ensures .0 ∙ rw (next-slot (flowView f) (rankOf (f .last)), rank .ensures .is) refl)
+    (put-in .ensures .1 ∙ rw (next-slot (flowView f) (rankOf (f .last)), rank .ensures .is) refl)
 
 pub with-sample-spec : {M : Type 1} → statement M
 with-sample-spec =

@@ -2,7 +2,7 @@
 use mathlib.Core.Path.{ap}
 use Rattle.numbers.specs.Number.{rankOf}
 use Rattle.writer_send_buffer.specs.Flow.{unwritten}
-use Rattle.writer_send_buffer.specs.Buffer.{view, woken}
+use Rattle.writer_send_buffer.specs.Buffer.{flowView, woken}
 use Rattle.writer_send_buffer.proofs.Calls.{wakes}
 use borrow.Author.Needs.{needs}
 use Rattle.writer_send_buffer.proofs.flow.WriterSendBuffer.with_sent_frontier.Statement.{
@@ -38,7 +38,7 @@ returns c =
     let formed = c .before .before .before .formed in
     let unless-refused = c .before .before .unless-refused in
     rw (unless-refused .ensures, formed .ensures, larger .ensures, ranks .ensures .0, rank .ensures .is)
-    (ap woken (wakes (args .self) (unwritten (rankOf (args .number)) (view (args .self))) (asked .result) (rw (ranks .ensures .0, rank .ensures .is) at (asked .ensures)) _ _))
+    (ap woken (wakes (args .self) (unwritten (rankOf (args .number)) (flowView (args .self))) (asked .result) (rw (ranks .ensures .0, rank .ensures .is) at (asked .ensures)) _ _))
 
 pub with-sent-frontier-spec : {M : Type 1} → statement M
 with-sent-frontier-spec =
