@@ -15,7 +15,7 @@ use Rattle.number_sets.specs.Bits.{members}
 use Rattle.number_sets.specs.Calls.{sequenceSet}
 use Rattle.rtps_reader_proxy.specs.declared.proxy.Changed.{Changed}
 use Rattle.rtps_reader_proxy.specs.declared.fragments.NextFragRequested.{NextFragRequested}
-use Rattle.rtps_reader_proxy.specs.Reader.{Reader}
+use Rattle.rtps_reader_proxy.specs.Reader.{Reader, fresh, withAcked, withUnsent}
 use Rattle.rtps_reader_proxy.specs.Record.{proxyOf, unsentRoom, gapRoom, changed}
 use Rattle.rtps_reader_proxy.specs.Unsent.{notifiedOf}
 use Rattle.rtps_reader_proxy.specs.Acks.{ackNackedOf}
@@ -40,7 +40,7 @@ asks base count word = record { base = numberAt base; count = count; words = wor
 
 -- a reader with A, M and unsent numbers alone
 abbrev pub reader : ℕ → ℕ → List ℕ → Reader
-reader a m u = record { acked = a; cap = m; unsent = u; prefix = 0; gaps = []; frags = [] }
+reader a m u = withAcked a (withUnsent u (fresh m))
 
 -- an ACKNACK taken by a reader: the answer, how many were left out, A, and the unsent numbers
 abbrev pub ackGives : SequenceNumberSet → ℕ → Reader → List ℕ

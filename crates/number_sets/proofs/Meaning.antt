@@ -1,4 +1,4 @@
--- What a set means, from OMG DDSI-RTPS 2.5, 8.3.5.5: "the members are base + i for each bit i below the count that is set". Assumes nothing.
+-- What a set means, from OMG DDSI-RTPS 2.5, 8.3.5.5: its members are base + i for each bit i below the count that is set. Assumes nothing.
 use Prim.Native.Nat.{ℕ, zero, suc, _+_, _-_, _*_, _/_, _%_, _^_, _≤_, _<_, min, max}
 use mathlib.Core.Path.{_≡_, refl, sym, ap, subst, _∙_}
 use mathlib.Core.Bool.{Bool, true, false, cond, _&&_, _||_, true≢false, false≢true}

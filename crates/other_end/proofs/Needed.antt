@@ -10,6 +10,7 @@ use Rattle.requested_fragments.specs.Entries.{entry}
 use Rattle.number_sets.specs.Bits.{wordOf, wordsOf}
 use Rattle.writer_send_buffer.specs.declared.limits.Kind.{Kind}
 use Rattle.writer_send_buffer.specs.declared.limits.Limits.{Limits}
+use Rattle.rtps_reader_proxy.specs.Reader.{fresh, withAcked, withUnsent, withGaps, withFrags}
 use Rattle.other_end.specs.Model.{base}
 use Rattle.other_end.specs.Calls.{gapAt, gapTo, askFrags}
 use Rattle.other_end.specs.System.{Line, State, Event, match, depart, write, evictTo, call, heartbeat, send, reply, deliver, find, run, start, lineMatched, stateWithFlow}
@@ -127,7 +128,7 @@ three-unsent : view (find 1 (three .lines)) ≡ 0 ∷ 1 ∷ 2 ∷ 3 ∷ []
 unfolding wordOf wordsOf
 three-unsent = refl
 
--- a round that ends short of the last leaves unsent what its second ACKNACK asked for: "nothing is unsent" needs "past the last"
+-- a round that ends short of the last leaves unsent what its second ACKNACK asked for: that nothing is unsent needs that it ends past the last
 three-round : view (find 1 (cleanRound 1 three .lines)) ≡ 3 ∷ 3 ∷ 3 ∷ []
 unfolding wordOf wordsOf
 three-round = refl
@@ -199,7 +200,7 @@ kept =
       reliable = true;
       since = 0;
       anew = true;
-      server = record { acked = 3; cap = 4; unsent = 3 ∷ []; prefix = 1; gaps = 3 ∷ []; frags = entry 3 (2 ∷ 4 ∷ []) ∷ [] };
+      server = withAcked 3 (withUnsent (3 ∷ []) (withGaps 1 (3 ∷ []) (withFrags (entry 3 (2 ∷ 4 ∷ []) ∷ []) (fresh 4))));
       model = record { settled = 1 ∷ 2 ∷ []; known = 3; samples = 1 ∷ 2 ∷ [] };
     }
 

@@ -23,13 +23,14 @@ use Rattle.rising.specs.Runs.{roomOf}
 use Rattle.rising.proofs.Meaning.{room-take, room-length}
 use Rattle.requested_fragments.specs.Table.{samplesRoom, wordsRoom}
 use Rattle.requested_fragments.proofs.Both.{rooms-hold, rooms-long}
+use Rattle.rtps_reader_proxy.specs.Parts.{countUnsent, countGaps, countFrags}
 use Rattle.rtps_reader_proxy.specs.declared.proxy.Changed.{Changed}
 use Rattle.rtps_reader_proxy.specs.declared.acks.AckNacked.{AckNacked}
-use Rattle.rtps_reader_proxy.specs.Reader.{Reader, acknowledge, leftOut, markedSent, removedBefore, notified, gapInserted, gapUpTo, fragsRequested, fragSent}
+use Rattle.rtps_reader_proxy.specs.Reader.{Reader, acknowledge, leftOut, markedSent, removedBefore, notified, gapInserted, gapUpTo, fragsRequested, fragSent, withAcked, withUnsent, withGaps, withFrags}
 use Rattle.rtps_reader_proxy.specs.Record.{roomFor, unsentCoherent, gapsCoherent, proxyOf, unsentRoom, gapRoom}
-use Rattle.rtps_reader_proxy.specs.Unsent.{byUnsent, countUnsent, unsentBy, notifiedOf}
-use Rattle.rtps_reader_proxy.specs.Gaps.{byGaps, countGaps, gapsBy, memberRows, endRows}
-use Rattle.rtps_reader_proxy.specs.Fragments.{fragsRequestedOf, fragsCoherent, byFrags, countFrags, fragsBy, requestRows}
+use Rattle.rtps_reader_proxy.specs.Unsent.{byUnsent, unsentBy, notifiedOf}
+use Rattle.rtps_reader_proxy.specs.Gaps.{byGaps, gapsBy, memberRows, endRows}
+use Rattle.rtps_reader_proxy.specs.Fragments.{fragsRequestedOf, fragsCoherent, byFrags, fragsBy, requestRows}
 use Rattle.rtps_reader_proxy.specs.Acks.{byBoth, proxyAfter, ackFits, ackRowsOf, ackNackedAmong}
 use Rattle.reader_record.specs.Whole.{roomsWhole, roomsCoherent, recordForm, Valid}
 use Rattle.reader_record.proofs.Whole.{entries-in, form-coherent}
@@ -60,16 +61,16 @@ leaves rows r r′ = unless rows (λ a. record { answer = a; left = recordForm r
 
 -- what a call sees that is lent one room, or the fragments' rooms
 abbrev seenUnsent : Reader → Reader
-seenUnsent r = record { acked = r .acked; cap = r .cap; unsent = r .unsent; prefix = r .prefix; gaps = take (length (r .gaps)) []; frags = [] }
+seenUnsent r = withGaps (r .prefix) (take (length (r .gaps)) []) (withFrags [] r)
 
 abbrev seenGaps : Reader → Reader
-seenGaps r = record { acked = r .acked; cap = r .cap; unsent = take (length (r .unsent)) []; prefix = r .prefix; gaps = r .gaps; frags = [] }
+seenGaps r = withUnsent (take (length (r .unsent)) []) (withFrags [] r)
 
 abbrev seenFrags : Reader → Reader
-seenFrags r = record { acked = r .acked; cap = r .cap; unsent = take (length (r .unsent)) []; prefix = r .prefix; gaps = take (length (r .gaps)) []; frags = r .frags }
+seenFrags r = withUnsent (take (length (r .unsent)) []) (withGaps (r .prefix) (take (length (r .gaps)) []) r)
 
 abbrev seenBoth : Reader → Reader
-seenBoth r = record { acked = r .acked; cap = r .cap; unsent = r .unsent; prefix = r .prefix; gaps = r .gaps; frags = [] }
+seenBoth r = withFrags [] r
 
 module _ (r : Reader) (v : Valid r) where
   abbrev samples : List ℕ
@@ -121,17 +122,17 @@ module _ (r : Reader) (v : Valid r) where
   prefix-is = rank-back (r .prefix) (omega (arith, v .prefix))
 
   pub by-unsent : byUnsent (proxyOf r) (unsentRoom r) ≡ seenUnsent r
-  by-unsent = λ i. record { acked = acked-is i; cap = r .cap; unsent = room-take (r .cap) (r .unsent) i; prefix = prefix-is i; gaps = take (length (r .gaps)) []; frags = [] }
+  by-unsent = λ i. withAcked (acked-is i) (withUnsent (room-take (r .cap) (r .unsent) i) (withGaps (prefix-is i) (take (length (r .gaps)) []) (withFrags [] r)))
 
   by-gaps : byGaps (proxyOf r) (gapRoom r) ≡ seenGaps r
-  by-gaps = λ i. record { acked = acked-is i; cap = r .cap; unsent = take (length (r .unsent)) []; prefix = prefix-is i; gaps = room-take 256 (r .gaps) i; frags = [] }
+  by-gaps = λ i. withAcked (acked-is i) (withUnsent (take (length (r .unsent)) []) (withGaps (prefix-is i) (room-take 256 (r .gaps) i) (withFrags [] r)))
 
   by-frags : byFrags (proxyOf r) samples words ≡ seenFrags r
   by-frags = λ i.
-      record { acked = acked-is i; cap = r .cap; unsent = take (length (r .unsent)) []; prefix = prefix-is i; gaps = take (length (r .gaps)) []; frags = rooms-hold 16 (r .frags) (entries-in r v) (v .frags-few) i }
+      withAcked (acked-is i) (withUnsent (take (length (r .unsent)) []) (withGaps (prefix-is i) (take (length (r .gaps)) []) (withFrags (rooms-hold 16 (r .frags) (entries-in r v) (v .frags-few) i) r)))
 
   by-both : byBoth (proxyOf r) (unsentRoom r) (gapRoom r) ≡ seenBoth r
-  by-both = λ i. record { acked = acked-is i; cap = r .cap; unsent = room-take (r .cap) (r .unsent) i; prefix = prefix-is i; gaps = room-take 256 (r .gaps) i; frags = [] }
+  by-both = λ i. withAcked (acked-is i) (withUnsent (room-take (r .cap) (r .unsent) i) (withGaps (prefix-is i) (room-take 256 (r .gaps) i) (withFrags [] r)))
 
   -- THE UNSENT NUMBERS
 

@@ -28,8 +28,8 @@ use Rattle.rising.specs.Runs.{roomOf}
 use Rattle.rising.proofs.Changes.{only-le}
 use Rattle.rtps_reader_proxy.specs.declared.proxy.ReaderProxy.{ReaderProxy}
 use Rattle.rtps_reader_proxy.specs.declared.acks.AckNacked.{AckNacked}
-use Rattle.rtps_reader_proxy.specs.Reader.{Reader, baseOf, isLate, ackedAfter, staying, wanted, acknowledge, leftOut}
-use Rattle.rtps_reader_proxy.specs.Record.{unsentCoherent, gapsCoherent}
+use Rattle.rtps_reader_proxy.specs.Reader.{Reader, baseOf, isLate, ackedAfter, staying, wanted, acknowledge, leftOut, withUnsent, withGaps}
+use Rattle.rtps_reader_proxy.specs.Record.{unsentCoherent, gapsCoherent, readerView}
 use Rattle.rtps_reader_proxy.specs.Acks.{ackRowsOf, ackRows, ackFits, ackLeaves, ackNackedOf, ackNackedAmong, proxyAfter}
 use Rattle.rtps_reader_proxy.proofs.Parts.{union-le}
 use Rattle.reader_record.specs.InPart.{AsWholes}
@@ -70,7 +70,7 @@ module _ (h : ReaderProxy) (room gaps : List ℕ) (ok : unsentCoherent h room �
   ms = members (sequenceSet set)
 
   abbrev withBoth : List ℕ → List ℕ → Reader
-  withBoth v w = record { acked = rankOf (h .«all_acked_before»); cap = h .«unsent_cap»; unsent = v; prefix = rankOf (h .«gap_prefix_end»); gaps = w; frags = [] }
+  withBoth v w = withUnsent v (withGaps (rankOf (h .«gap_prefix_end»)) w (readerView h [] [] []))
 
   abbrev y : Reader
   y = acknowledge L B ms (withBoth u g)

@@ -29,13 +29,14 @@ use Rattle.requested_fragments.proofs.Whole.{coherent-sound}
 use Rattle.requested_fragments.proofs.Coherent.{is-coherent}
 use Rattle.requested_fragments.proofs.Form.{marked-again}
 use Rattle.requested_fragments.proofs.Both.{Valid as EntriesValid, rooms-pass, rooms-hold, entries-valid, entries-few, sent-few}
+use Rattle.rtps_reader_proxy.specs.Parts.{countFrags}
 use Rattle.rtps_reader_proxy.specs.declared.proxy.ReaderProxy.{ReaderProxy}
 use Rattle.rtps_reader_proxy.specs.declared.proxy.Changed.{Changed}
 use Rattle.rtps_reader_proxy.specs.declared.fragments.NextFragRequested.{NextFragRequested}
 use Rattle.rtps_reader_proxy.specs.declared.fragments.Told.{Told}
 use Rattle.rtps_reader_proxy.specs.Reader.{Reader, fragsRequested}
 use Rattle.rtps_reader_proxy.specs.Record.{proxyCoherent}
-use Rattle.rtps_reader_proxy.specs.Fragments.{fragsCoherent, countFrags, entriesIn, fragSentOf, nextFragOf}
+use Rattle.rtps_reader_proxy.specs.Fragments.{fragsCoherent, entriesIn, fragSentOf, nextFragOf}
 use Rattle.reader_record.specs.Play.{Played, playEnded, offers, onward, turn, play}
 use Rattle.reader_record.specs.AllSent.{Drains}
 use Rattle.reader_record.proofs.Whole.{ProxyIs, proxy-is}

@@ -34,13 +34,14 @@ use Rattle.requested_fragments.proofs.Form.{Fit, words-length, form-coherent, f
 use Rattle.requested_fragments.proofs.OneForm.{is-form}
 use Rattle.requested_fragments.proofs.AskForm.{asked-samples}
 use Rattle.requested_fragments.proofs.Both.{samples-count, words-count, entries-valid, sent-few}
+use Rattle.rtps_reader_proxy.specs.Parts.{countFrags}
 use Rattle.rtps_reader_proxy.specs.declared.proxy.ReaderProxy.{ReaderProxy}
 use Rattle.rtps_reader_proxy.specs.declared.proxy.Changed.{Changed}
 use Rattle.rtps_reader_proxy.specs.declared.fragments.NextFragRequested.{NextFragRequested}
 use Rattle.rtps_reader_proxy.specs.declared.fragments.Told.{Told}
 use Rattle.rtps_reader_proxy.specs.Reader.{Reader, needsSlot, fragsRequested, fragSent}
-use Rattle.rtps_reader_proxy.specs.Record.{proxyCoherent, roomFor}
-use Rattle.rtps_reader_proxy.specs.Fragments.{fragsCoherent, countFrags, fragsBy, requestRows, fragsRequestedOf, fragSentOf, nextFragAnswer, nextFragOf, repairOf}
+use Rattle.rtps_reader_proxy.specs.Record.{proxyCoherent, roomFor, readerView}
+use Rattle.rtps_reader_proxy.specs.Fragments.{fragsCoherent, fragsBy, requestRows, fragsRequestedOf, fragSentOf, nextFragAnswer, nextFragOf, repairOf}
 use Rattle.rtps_reader_proxy.proofs.FragCalls.{count-is}
 use Rattle.reader_record.specs.InPart.{AsWholes}
 use Rattle.reader_record.proofs.InPart.{part-is, part-long, glue, all-fit, fits-few, same2, as-wholes}
@@ -124,7 +125,7 @@ module _ (h : ReaderProxy) (S W : List ℕ) (ok : fragsCoherent h S W ≡ true) 
 
   -- the reader with such entries, as far as the call sees it
   abbrev withSeen : List Entry → Reader
-  withSeen es = record { acked = rankOf (h .«all_acked_before»); cap = h .«unsent_cap»; unsent = take (h .«unsent_count») []; prefix = rankOf (h .«gap_prefix_end»); gaps = take (h .«gap_count») []; frags = es }
+  withSeen es = readerView h [] [] es
 
   -- a step f of the reader that leaves no more than the part has room for
   module _ (rows : Reader → List Row) (f : Reader → Reader) where

@@ -24,11 +24,12 @@ use Rattle.numbers.proofs.Refused.{clear}
 use Rattle.rising.specs.Runs.{runCoherent, roomOf}
 use Rattle.rising.proofs.Inserts.{insert-le}
 use Rattle.rising.proofs.Changes.{only-le}
+use Rattle.rtps_reader_proxy.specs.Parts.{countGaps}
 use Rattle.rtps_reader_proxy.specs.declared.proxy.ReaderProxy.{ReaderProxy}
 use Rattle.rtps_reader_proxy.specs.declared.proxy.Changed.{Changed}
-use Rattle.rtps_reader_proxy.specs.Reader.{Reader, needsRoom, gapInserted, gapUpTo, nextGap}
-use Rattle.rtps_reader_proxy.specs.Record.{proxyCoherent, roomFor, gapsCoherent, gapFloor}
-use Rattle.rtps_reader_proxy.specs.Gaps.{countGaps, gapsBy, memberRows, endRows, gapInsertedOf, gapUpToOf, nextGapOf}
+use Rattle.rtps_reader_proxy.specs.Reader.{Reader, needsRoom, gapInserted, gapUpTo, nextGap, withGaps}
+use Rattle.rtps_reader_proxy.specs.Record.{proxyCoherent, roomFor, gapsCoherent, gapFloor, readerView}
+use Rattle.rtps_reader_proxy.specs.Gaps.{gapsBy, memberRows, endRows, gapInsertedOf, gapUpToOf, nextGapOf}
 use Rattle.rtps_reader_proxy.proofs.GapCalls.{GapsAre, gaps-are}
 use Rattle.reader_record.specs.InPart.{AsWhole}
 use Rattle.reader_record.proofs.InPart.{held-long, run-long, part-run, part-held, run-glue, all-fit, fits-few, same1, as-whole}
@@ -61,7 +62,7 @@ module _ (h : ReaderProxy) (room : List ℕ) (ok : gapsCoherent h room ≡ true)
 
   -- the reader with such members, as far as the call sees it
   abbrev withSeen : List ℕ → Reader
-  withSeen l = record { acked = rankOf (h .«all_acked_before»); cap = h .«unsent_cap»; unsent = take (h .«unsent_count») []; prefix = rankOf (h .«gap_prefix_end»); gaps = l; frags = [] }
+  withSeen l = withGaps (rankOf (h .«gap_prefix_end»)) l (readerView h [] [] [])
 
   -- a step f of the reader that leaves no more than the part has room for
   module _ (rows : Reader → List Row) (f : Reader → Reader) where

@@ -29,15 +29,16 @@ use Rattle.requested_fragments.specs.Table.{samplesRoom, wordsRoom, askable}
 use Rattle.requested_fragments.proofs.Meaning.{Within}
 use Rattle.requested_fragments.proofs.AskForm.{askable-within, askable-rises}
 use Rattle.requested_fragments.proofs.OneForm.{Words}
+use Rattle.rtps_reader_proxy.specs.Parts.{countUnsent, countGaps, countFrags}
 use Rattle.rtps_reader_proxy.specs.declared.proxy.ReaderProxy.{ReaderProxy}
 use Rattle.rtps_reader_proxy.specs.declared.proxy.Changed.{Changed}
 use Rattle.rtps_reader_proxy.specs.declared.unsent.Taken.{Taken}
 use Rattle.rtps_reader_proxy.specs.declared.acks.AckNacked.{AckNacked}
 use Rattle.rtps_reader_proxy.specs.Reader.{Reader, withUnsent, withGaps, withFrags, isAhead, acknowledge, notified, markedSent, removedBefore, taken, untaken, needsRoom, gapInserted, gapUpTo, needsSlot, fragsRequested, fragSent}
 use Rattle.rtps_reader_proxy.specs.Record.{roomFor, unsentCoherent, gapsCoherent, proxyOf, unsentRoom, gapRoom}
-use Rattle.rtps_reader_proxy.specs.Unsent.{countUnsent, byUnsent, unsentBy, notifiedOf, markedSentOf, removedBeforeOf, takenOf}
-use Rattle.rtps_reader_proxy.specs.Gaps.{countGaps, byGaps, gapsBy, beyond, gapInsertedOf, gapUpToOf}
-use Rattle.rtps_reader_proxy.specs.Fragments.{fragsCoherent, countFrags, byFrags, fragsBy, cannotAsk, noSlot, fragsRequestedOf, fragSentOf}
+use Rattle.rtps_reader_proxy.specs.Unsent.{byUnsent, unsentBy, notifiedOf, markedSentOf, removedBeforeOf, takenOf}
+use Rattle.rtps_reader_proxy.specs.Gaps.{byGaps, gapsBy, beyond, gapInsertedOf, gapUpToOf}
+use Rattle.rtps_reader_proxy.specs.Fragments.{fragsCoherent, byFrags, fragsBy, cannotAsk, noSlot, fragsRequestedOf, fragSentOf}
 use Rattle.rtps_reader_proxy.specs.Acks.{ackRows, ackNackedOf, ackLeaves}
 use Rattle.reader_record.specs.Whole.{Picture, recordCoherent, recordView, recordForm, Valid, Stands}
 use Rattle.rtps_reader_proxy.proofs.FragCalls.{CanAsk, can-ask}

@@ -21,12 +21,13 @@ use Rattle.numbers.specs.declared.sequence_number.SequenceNumber.{SequenceNumbe
 use Rattle.rising.specs.Runs.{runCoherent, roomOf, filled}
 use Rattle.rising.proofs.Inserts.{insert-le}
 use Rattle.rising.proofs.Changes.{only-le}
+use Rattle.rtps_reader_proxy.specs.Parts.{countUnsent}
 use Rattle.rtps_reader_proxy.specs.declared.proxy.ReaderProxy.{ReaderProxy}
 use Rattle.rtps_reader_proxy.specs.declared.proxy.Changed.{Changed}
 use Rattle.rtps_reader_proxy.specs.declared.unsent.Taken.{Taken}
-use Rattle.rtps_reader_proxy.specs.Reader.{Reader, notified, markedSent, removedBefore, taken, untaken}
-use Rattle.rtps_reader_proxy.specs.Record.{proxyCoherent, roomFor, unsentCoherent}
-use Rattle.rtps_reader_proxy.specs.Unsent.{countUnsent, unsentBy, notifiedOf, markedSentOf, removedBeforeOf, takenOf, nextUnsentOf}
+use Rattle.rtps_reader_proxy.specs.Reader.{Reader, notified, markedSent, removedBefore, taken, untaken, withUnsent}
+use Rattle.rtps_reader_proxy.specs.Record.{proxyCoherent, roomFor, unsentCoherent, readerView}
+use Rattle.rtps_reader_proxy.specs.Unsent.{unsentBy, notifiedOf, markedSentOf, removedBeforeOf, takenOf, nextUnsentOf}
 use Rattle.rtps_reader_proxy.proofs.UnsentCalls.{UnsentIs, unsent-is, untaken-is}
 use Rattle.reader_record.specs.InPart.{AsWhole}
 use Rattle.reader_record.proofs.InPart.{held-long, run-long, part-run, part-held, run-glue, all-fit, fits-few, same1, as-whole}
@@ -59,7 +60,7 @@ module _ (h : ReaderProxy) (room : List ℕ) (ok : unsentCoherent h room ≡ tru
 
   -- the reader with such unsent numbers, as far as the call sees it
   abbrev withSeen : List ℕ → Reader
-  withSeen l = record { acked = rankOf (h .«all_acked_before»); cap = h .«unsent_cap»; unsent = l; prefix = rankOf (h .«gap_prefix_end»); gaps = take (h .«gap_count») []; frags = [] }
+  withSeen l = withUnsent l (readerView h [] [] [])
 
   -- a step f of the reader that leaves no more than the part has room for
   module _ (rows : List Row) (f : Reader → Reader) where

@@ -48,7 +48,7 @@ abbrev pub allHold : ℕ → List ℕ → Bool
 allHold zero ws = true
 allHold (suc k) ws = not (empty (fragmentsOf (take sampleWords ws))) && allHold k (drop sampleWords ws)
 
--- "fragment samples rise strictly and are valid sample numbers, each fragment entry holds a bit, and unused room is zero", of what is lent: any number of samples
+-- "fragment samples rise strictly and are valid sample numbers .. each fragment entry holds a bit, and unused room is zero", of what is lent: any number of samples
 -- up to 16, and 64 words for each
 abbrev pub fragRoomsCoherent : ℕ → List ℕ → List ℕ → Bool
 fragRoomsCoherent count samples words =

@@ -38,13 +38,14 @@ use Rattle.requested_fragments.proofs.Form.{coherent-fit, marked-again}
 use Rattle.requested_fragments.proofs.AskForm.{asked-again, askable-within, askable-rises, askable-all, asked-samples}
 use Rattle.requested_fragments.proofs.OneForm.{Words}
 use Rattle.requested_fragments.proofs.Both.{Valid, view-samples, view-length, entries-valid, rooms-are}
+use Rattle.rtps_reader_proxy.specs.Parts.{countFrags}
 use Rattle.rtps_reader_proxy.specs.declared.proxy.ReaderProxy.{ReaderProxy}
 use Rattle.rtps_reader_proxy.specs.declared.proxy.Changed.{Changed}
 use Rattle.rtps_reader_proxy.specs.declared.fragments.NextFragRequested.{NextFragRequested}
 use Rattle.rtps_reader_proxy.specs.declared.fragments.Told.{Told}
 use Rattle.rtps_reader_proxy.specs.Reader.{Reader, needsSlot, fragsRequested, fragSent}
 use Rattle.rtps_reader_proxy.specs.Record.{proxyCoherent, roomFor, changed}
-use Rattle.rtps_reader_proxy.specs.Fragments.{fragsCoherent, countFrags, entriesIn, byFrags, fragsBy, cannotAsk, noSlot, fragsRequestedOf, nextFragOf, nextFragAnswer, repairOf}
+use Rattle.rtps_reader_proxy.specs.Fragments.{fragsCoherent, entriesIn, byFrags, fragsBy, cannotAsk, noSlot, fragsRequestedOf, nextFragOf, nextFragAnswer, repairOf}
 use Rattle.rtps_reader_proxy.proofs.GapCalls.{above}
 use Rattle.rtps_reader_proxy.proofs.Parts.{room-for}
 

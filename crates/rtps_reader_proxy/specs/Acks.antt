@@ -16,6 +16,7 @@ use Rattle.number_sets.specs.declared.sequence_number_set.SequenceNumberSet.{Se
 use Rattle.number_sets.specs.Bits.{NumberSet, members}
 use Rattle.number_sets.specs.Calls.{sequenceSet}
 use Rattle.rising.specs.Runs.{runCoherent, roomOf}
+use Rattle.rtps_reader_proxy.specs.Parts.{countUnsent, countMembers, ackedAs}
 use Rattle.rtps_reader_proxy.specs.declared.proxy.ReaderProxy.{ReaderProxy}
 use Rattle.rtps_reader_proxy.specs.declared.acks.AckNacked.{AckNacked}
 use Rattle.rtps_reader_proxy.specs.Reader.{Reader, isAhead, acknowledge, leftOut, staying, wanted, ackedAfter, baseOf}
@@ -43,15 +44,7 @@ ackRows h unsent gaps set last =
 
 -- the proxy of a reader whose fragments aren't touched
 abbrev pub proxyAfter : Reader → ReaderProxy → ReaderProxy
-proxyAfter r h =
-    record {
-      «all_acked_before» = numberAt (r .acked);
-      «unsent_cap» = h .«unsent_cap»;
-      «unsent_count» = length (r .unsent);
-      «gap_prefix_end» = h .«gap_prefix_end»;
-      «gap_count» = length (r .gaps);
-      «frag_count» = h .«frag_count»;
-    }
+proxyAfter r h = ackedAs (r .acked) (countUnsent (length (r .unsent)) (countMembers (length (r .gaps)) h))
 
 -- the reader, as far as the proxy and the two rooms show it
 abbrev pub byBoth : ReaderProxy → List ℕ → List ℕ → Reader
@@ -116,12 +109,5 @@ ackedWith acked total kept h =
     record {
       answer = done;
       «left_out» = total - h .«unsent_cap»;
-      proxy = record {
-        «all_acked_before» = numberAt acked;
-        «unsent_cap» = h .«unsent_cap»;
-        «unsent_count» = total - (total - h .«unsent_cap»);
-        «gap_prefix_end» = h .«gap_prefix_end»;
-        «gap_count» = kept;
-        «frag_count» = h .«frag_count»;
-      };
+      proxy = ackedAs acked (countUnsent (total - (total - h .«unsent_cap»)) (countMembers kept h));
     }

@@ -20,6 +20,7 @@ use Rattle.number_sets.specs.Bits.{NumberSet, members}
 use Rattle.number_sets.specs.Calls.{fragmentSet}
 use Rattle.requested_fragments.specs.Entries.{Entry, nextSample, nextFragment, some}
 use Rattle.requested_fragments.specs.Table.{fragRoomsCoherent, entriesOf, samplesRoom, wordsRoom}
+use Rattle.rtps_reader_proxy.specs.Parts.{countFrags}
 use Rattle.rtps_reader_proxy.specs.declared.proxy.ReaderProxy.{ReaderProxy}
 use Rattle.rtps_reader_proxy.specs.declared.proxy.Changed.{Changed}
 use Rattle.rtps_reader_proxy.specs.declared.fragments.NextFragRequested.{NextFragRequested}
@@ -30,18 +31,6 @@ use Rattle.rtps_reader_proxy.specs.Record.{proxyCoherent, roomFor, reade
 -- "fragment samples rise strictly and are valid sample numbers .. each fragment entry holds a bit, and unused room is zero"
 abbrev pub fragsCoherent : ReaderProxy → List ℕ → List ℕ → Bool
 fragsCoherent h samples words = proxyCoherent h && fragRoomsCoherent (h .«frag_count») samples words
-
--- the proxy, with the count of other entries
-abbrev pub countFrags : ℕ → ReaderProxy → ReaderProxy
-countFrags n h =
-    record {
-      «all_acked_before» = h .«all_acked_before»;
-      «unsent_cap» = h .«unsent_cap»;
-      «unsent_count» = h .«unsent_count»;
-      «gap_prefix_end» = h .«gap_prefix_end»;
-      «gap_count» = h .«gap_count»;
-      «frag_count» = n;
-    }
 
 -- the entries in the rooms; and the reader, as far as the proxy and these rooms show it
 abbrev pub entriesIn : ReaderProxy → List ℕ → List ℕ → List Entry

@@ -20,7 +20,10 @@ pub record Reader : Type 0 where
 abbrev pub fresh : ℕ → Reader
 fresh m = record { acked = 0; cap = m; unsent = []; prefix = 0; gaps = []; frags = [] }
 
--- the reader with other unsent numbers, other gaps, or other requested fragments
+-- THE PARTS, each with its own update: what was acknowledged, the unsent numbers, the pending gap, the requested fragments
+abbrev pub withAcked : ℕ → Reader → Reader
+withAcked a r = record { acked = a; cap = r .cap; unsent = r .unsent; prefix = r .prefix; gaps = r .gaps; frags = r .frags }
+
 abbrev pub withUnsent : List ℕ → Reader → Reader
 withUnsent u r = record { acked = r .acked; cap = r .cap; unsent = u; prefix = r .prefix; gaps = r .gaps; frags = r .frags }
 
@@ -59,14 +62,9 @@ wanted last b ms a u = union (between (ackedAfter a b) last ms) (staying last b 
 -- "If the result would hold more than M numbers, the M smallest stay"; "gap members below b go"; "Requested fragments aren't touched"
 abbrev pub acknowledge : ℕ → ℕ → List ℕ → Reader → Reader
 acknowledge last b ms r =
-    record {
-      acked = ackedAfter (r .acked) b;
-      cap = r .cap;
-      unsent = smallest (r .cap) (wanted last b ms (r .acked) (r .unsent));
-      prefix = r .prefix;
-      gaps = only (leb (ackedAfter (r .acked) b)) (r .gaps);
-      frags = r .frags;
-    }
+    withAcked (ackedAfter (r .acked) b)
+    (withUnsent (smallest (r .cap) (wanted last b ms (r .acked) (r .unsent)))
+    (withGaps (r .prefix) (only (leb (ackedAfter (r .acked) b)) (r .gaps)) r))
 
 -- "the count is the size of the untrimmed set less M, or 0"
 abbrev pub leftOut : ℕ → ℕ → List ℕ → Reader → ℕ
@@ -74,7 +72,7 @@ leftOut last b ms r = length (wanted last b ms (r .acked) (r .unsent)) - r .cap
 
 -- UNSENT NUMBERS
 
--- "A new sample's number joins the unsent set; above M the smallest go"
+-- "A new sample's number .. joins the unsent set; above M the smallest go"
 abbrev pub notified : ℕ → Reader → Reader
 notified n r = withUnsent (largest (r .cap) (insert n (r .unsent))) r
 

@@ -81,7 +81,7 @@ ackLine id base l t large small =
     (ackFollowed (isFirst (foundOf (t .heads) id)) id (askedFor base l) t large small)
     (record { result = refusedBy incoherent t; first = large; second = small })
 
--- OP=SENT: "marks the number sent for that reader"; "`sent` also raises the sent frontier"
+-- OP=SENT: the number is marked sent for that reader; "`sent` also raises the sent frontier"
 
 abbrev pub sentAnswers : Bool → Answer → SequenceNumber → Trace → List ℕ → List Answer
 sentAnswers first looked n t unsent = ownAnswer (unsentCoherent (readerIn first t) unsent) ∷ sentOf (t .flow) n .result .answer ∷ looked ∷ []

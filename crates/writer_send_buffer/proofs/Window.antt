@@ -15,7 +15,7 @@ module _ (f : Flow) (opted : Bool) (plain : f .kind .builtin ≡ false) where
     rest : hasRoom f opted ≡ true → (not (leb (f .limits .backlog) (f .last - f .sent)) && (not (f .kind .reliable) || (not (f .present) || ltb (f .last + 1 - f .acked) (f .limits .window)))) ≡ true
     rest e = rw (plain, blocks) at e
 
-    -- "any write that may block leaves at most `backlog` unsent"
+    -- any write that may block leaves at most `backlog` unsent
     pub backlog-kept : hasRoom f opted ≡ true → admitted f opted .last - f .sent ≤ f .limits .backlog
     backlog-kept e =
         let k : f .last - f .sent < f .limits .backlog = leb-false _ _ (of-not (leb (f .limits .backlog) (f .last - f .sent)) (and-left (not (leb (f .limits .backlog) (f .last - f .sent))) (not (f .kind .reliable) || (not (f .present) || ltb (f .last + 1 - f .acked) (f .limits .window))) (rest e))) in

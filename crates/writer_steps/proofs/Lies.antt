@@ -20,11 +20,12 @@ use Rattle.numbers.proofs.Ranks.{rank-back}
 use Rattle.rising.specs.Runs.{filled, roomOf}
 use Rattle.rising.proofs.Meaning.{room-is, rising-smallest}
 use Rattle.rising.proofs.Lists.{filled-length, filled-at, filled-end}
+use Rattle.rtps_reader_proxy.specs.Parts.{countUnsent}
 use Rattle.rtps_reader_proxy.specs.declared.proxy.ReaderProxy.{ReaderProxy}
 use Rattle.rtps_reader_proxy.specs.declared.unsent.Taken.{Taken}
 use Rattle.rtps_reader_proxy.specs.Reader.{taken, untaken}
 use Rattle.rtps_reader_proxy.specs.Record.{unsentCoherent}
-use Rattle.rtps_reader_proxy.specs.Unsent.{byUnsent, countUnsent, takenOf}
+use Rattle.rtps_reader_proxy.specs.Unsent.{byUnsent, takenOf}
 use Rattle.rtps_reader_proxy.proofs.UnsentCalls.{UnsentIs, unsent-is, taken-is}
 use Rattle.writer_send_buffer.specs.declared.flow.WriterSendBuffer.{WriterSendBuffer}
 use Rattle.writer_send_buffer.specs.declared.samples.Located.{Located}

@@ -23,11 +23,12 @@ use Rattle.numbers.proofs.Ranks.{rank-back}
 use Rattle.rising.specs.Runs.{runCoherent, roomOf}
 use Rattle.rising.proofs.Meaning.{Rising, RunIs, room-is, room-ok, room-take, room-length, rising-only, only-all}
 use Rattle.rising.proofs.Changes.{only-le}
+use Rattle.rtps_reader_proxy.specs.Parts.{countUnsent}
 use Rattle.rtps_reader_proxy.specs.declared.proxy.ReaderProxy.{ReaderProxy}
 use Rattle.rtps_reader_proxy.specs.declared.proxy.Changed.{Changed}
 use Rattle.rtps_reader_proxy.specs.Reader.{markedSent, taken, untaken}
 use Rattle.rtps_reader_proxy.specs.Record.{proxyCoherent, unsentCoherent}
-use Rattle.rtps_reader_proxy.specs.Unsent.{byUnsent, countUnsent, markedSentOf}
+use Rattle.rtps_reader_proxy.specs.Unsent.{byUnsent, markedSentOf}
 use Rattle.rtps_reader_proxy.proofs.UnsentCalls.{UnsentIs, unsent-is}
 use Rattle.writer_send_buffer.specs.declared.flow.WriterSendBuffer.{WriterSendBuffer}
 use Rattle.writer_send_buffer.specs.declared.flow.Numbered.{Numbered}

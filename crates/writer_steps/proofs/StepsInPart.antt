@@ -17,12 +17,13 @@ use Rattle.numbers.specs.declared.sequence_number.SequenceNumber.{SequenceNumbe
 use Rattle.number_sets.specs.declared.sequence_number_set.SequenceNumberSet.{SequenceNumberSet}
 use Rattle.number_sets.specs.declared.fragment_number_set.FragmentNumberSet.{FragmentNumberSet}
 use Rattle.rising.specs.Runs.{roomOf}
+use Rattle.rtps_reader_proxy.specs.Parts.{countUnsent}
 use Rattle.rtps_reader_proxy.specs.declared.proxy.ReaderProxy.{ReaderProxy}
 use Rattle.rtps_reader_proxy.specs.declared.proxy.Changed.{Changed}
 use Rattle.rtps_reader_proxy.specs.declared.acks.AckNacked.{AckNacked}
 use Rattle.rtps_reader_proxy.specs.Reader.{taken, untaken}
 use Rattle.rtps_reader_proxy.specs.Record.{roomFor, unsentCoherent, gapsCoherent}
-use Rattle.rtps_reader_proxy.specs.Unsent.{countUnsent, markedSentOf}
+use Rattle.rtps_reader_proxy.specs.Unsent.{markedSentOf}
 use Rattle.rtps_reader_proxy.specs.Acks.{ackFits}
 use Rattle.rtps_reader_proxy.specs.Fragments.{fragsCoherent, fragsRequestedOf}
 use Rattle.rtps_reader_proxy.proofs.UnsentCalls.{unsent-is, untaken-is}

@@ -15,8 +15,8 @@ use Rattle.numbers.specs.Number.{rankOf}
 use Rattle.numbers.specs.Refusals.{isDone}
 use Rattle.numbers.specs.Promise.{Left1, Gives1}
 use Rattle.rising.specs.Runs.{over, inRoom, newest}
+use Rattle.rtps_reader_proxy.specs.Parts.{countUnsent}
 use Rattle.rtps_reader_proxy.specs.declared.proxy.ReaderProxy.{ReaderProxy}
-use Rattle.rtps_reader_proxy.specs.Unsent.{countUnsent}
 use Rattle.writer_send_buffer.specs.declared.flow.Numbered.{Numbered}
 use Rattle.writer_write.specs.declared.sound.SoundReader.{SoundReader}
 use Rattle.writer_write.specs.Write.{UnsentPart}

@@ -17,11 +17,11 @@ use Rattle.numbers.specs.Promise.{Left1}
 use Rattle.numbers.specs.declared.sequence_number.SequenceNumber.{SequenceNumber}
 use Rattle.rising.specs.Runs.{roomOf}
 use Rattle.rising.proofs.Meaning.{room-take, room-length}
+use Rattle.rtps_reader_proxy.specs.Parts.{countUnsent}
 use Rattle.rtps_reader_proxy.specs.declared.proxy.ReaderProxy.{ReaderProxy}
 use Rattle.rtps_reader_proxy.specs.declared.proxy.Changed.{Changed}
 use Rattle.rtps_reader_proxy.specs.Reader.{Reader, notified}
 use Rattle.rtps_reader_proxy.specs.Record.{roomFor, unsentCoherent, proxyOf, unsentRoom}
-use Rattle.rtps_reader_proxy.specs.Unsent.{countUnsent}
 use Rattle.reader_record.specs.Whole.{roomsWhole, roomsCoherent, recordForm, Valid}
 use Rattle.reader_record.proofs.Whole.{form-coherent}
 use Rattle.reader_record.proofs.Kept.{notified-valid}

@@ -16,10 +16,11 @@ use Rattle.numbers.specs.Promise.{Left1, Gives1}
 use Rattle.numbers.specs.declared.answer.Answer.{Answer}
 use Rattle.numbers.specs.declared.sequence_number.SequenceNumber.{SequenceNumber}
 use Rattle.rising.specs.Runs.{runCoherent, inRoom, newest}
+use Rattle.rtps_reader_proxy.specs.Parts.{countUnsent}
 use Rattle.rtps_reader_proxy.specs.declared.proxy.ReaderProxy.{ReaderProxy}
 use Rattle.rtps_reader_proxy.specs.declared.proxy.Changed.{Changed}
 use Rattle.rtps_reader_proxy.specs.Record.{proxyCoherent, roomFor, unsentCoherent, changed}
-use Rattle.rtps_reader_proxy.specs.Unsent.{notifiedOf, countUnsent}
+use Rattle.rtps_reader_proxy.specs.Unsent.{notifiedOf}
 use Rattle.rtps_reader_proxy.proofs.Ends.{appended}
 use Rattle.rtps_reader_proxy.proofs.UnsentCalls.{unsent-is, notify-refused, notify-is}
 use Rattle.reader_record.proofs.Whole.{proxy-is}

@@ -14,11 +14,12 @@ use Rattle.numbers.specs.Number.{rankOf, isSample}
 use Rattle.numbers.specs.Refusals.{row, answerOf, isDone, done, Rows}
 use Rattle.numbers.specs.Promise.{Left1}
 use Rattle.rising.specs.Runs.{roomOf}
+use Rattle.rtps_reader_proxy.specs.Parts.{countUnsent}
 use Rattle.rtps_reader_proxy.specs.declared.proxy.ReaderProxy.{ReaderProxy}
 use Rattle.rtps_reader_proxy.specs.declared.proxy.Changed.{Changed}
 use Rattle.rtps_reader_proxy.specs.Reader.{notified}
 use Rattle.rtps_reader_proxy.specs.Record.{roomFor, unsentCoherent}
-use Rattle.rtps_reader_proxy.specs.Unsent.{notifiedOf, byUnsent, countUnsent}
+use Rattle.rtps_reader_proxy.specs.Unsent.{notifiedOf, byUnsent}
 use Rattle.rtps_reader_proxy.proofs.UnsentCalls.{unsent-is}
 use Rattle.reader_record.proofs.Whole.{ProxyIs, proxy-is}
 use Rattle.reader_record.proofs.UnsentInPart.{unsent-part-ok, notify-in-part}

@@ -13,7 +13,7 @@ use Rattle.numbers.specs.Capacities.{mostReaders}
 abbrev pub placeCoherent : ReaderProxy → List ℕ → Bool
 placeCoherent h part = isFree h || (roomFor 1 (h .«unsent_cap») (h .«unsent_count») part && unsentCoherent h part)
 
--- "0 to 64 readers": n places, with stretches of s
+-- 0 to 64 readers: n places, with stretches of s
 abbrev pub placesCoherentFrom : ℕ → ℕ → List ReaderProxy → List ℕ → Bool
 placesCoherentFrom n s [] v = true
 placesCoherentFrom n s (h ∷ hs) v = (leb n mostReaders && placeCoherent h (readerAt s h v .unsent)) && placesCoherentFrom n s hs (drop s v)
