@@ -95,19 +95,19 @@ impl Answer {
     }
 
     // The answer of a call that only what isn't coherent refuses.
-    pub fn coherence(good: bool) -> Answer
-        ensures { λ r. ⌜ r ≡ answerOf (row 1 refl (not good) ∷ []) ⌝ }
+    pub fn coherence(coherent: bool) -> Answer
+        ensures { λ r. ⌜ r ≡ answerOf (row 1 refl (not coherent) ∷ []) ⌝ }
     {
-        Answer::done().unless(!good, Answer::INCOHERENT)
+        Answer::done().unless(!coherent, Answer::INCOHERENT)
     }
 
     // The answer of a question that finds something or nothing.
-    pub fn found(good: bool, none: bool) -> Answer
-        ensures { λ r. ⌜ r ≡ answerOf (row 1 refl (not good) ∷ row 14 refl none ∷ []) ⌝ }
+    pub fn found(coherent: bool, none: bool) -> Answer
+        ensures { λ r. ⌜ r ≡ answerOf (row 1 refl (not coherent) ∷ row 14 refl none ∷ []) ⌝ }
     {
         Answer::done()
             .unless(none, Answer::NOTHING)
-            .unless(!good, Answer::INCOHERENT)
+            .unless(!coherent, Answer::INCOHERENT)
     }
 
     // The answer to a trace line that isn't understood: no call's, and in no order with theirs.

@@ -48,7 +48,7 @@ use Rattle.other_end.specs.AsCalled.{Starts, Then, calledOn, Acks, ackOn
 use Rattle.other_end.proofs.Found.{none-some, find-same, All, found-all}
 use Rattle.other_end.proofs.Calls.{done-clear}
 use Rattle.other_end.proofs.Fine.{Sane}
-use Rattle.other_end.proofs.Steps.{unsent-ok, does-notify, does-call, does-sent, does-evict}
+use Rattle.other_end.proofs.Steps.{unsent-coherent, does-notify, does-call, does-sent, does-evict}
 use Rattle.other_end.proofs.Sound.{Sound}
 use Rattle.other_end.proofs.Listed.{match-called, depart-called}
 use Rattle.other_end.proofs.Acked.{looked-done, acks-so}
@@ -211,7 +211,7 @@ module _ (s : State) (h : Sound s) where
     where
       all-ok : (ls : List Line) → All (λ l. Valid (l .server)) ls → allUnsentCoherent (map unsentPartForm ls) ≡ true
       all-ok [] v = refl
-      all-ok (l ∷ ls) v = and-both (unsentCoherent (proxyOf (l .server)) (unsentRoom (l .server))) (allUnsentCoherent (map unsentPartForm ls)) (unsent-ok (l .server) (v .0)) (all-ok ls (v .1))
+      all-ok (l ∷ ls) v = and-both (unsentCoherent (proxyOf (l .server)) (unsentRoom (l .server))) (allUnsentCoherent (map unsentPartForm ls)) (unsent-coherent (l .server) (v .0)) (all-ok ls (v .1))
 
       ok : allUnsentCoherent (standing hs u) ≡ true
       ok = ap allUnsentCoherent st ∙ all-ok (s .lines) (found-all (λ l. Valid (l .server)) (s .lines) (h .apart) (λ i l q. h .lines i l q .valid))

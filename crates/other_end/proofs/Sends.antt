@@ -34,7 +34,7 @@ use Rattle.writer_steps.specs.Send.{firstUnsent, sendOf}
 use Rattle.other_end.specs.System.{Line, sample, gap, State, send, onServer, sendFirst, sendTo, step}
 use Rattle.other_end.specs.AsCalled.{Then, Sends, SendCalled}
 use Rattle.other_end.proofs.Found.{find-same}
-use Rattle.other_end.proofs.Steps.{unsent-ok, by-unsent, by-unsent-is}
+use Rattle.other_end.proofs.Steps.{unsent-coherent, by-unsent, by-unsent-is}
 use Rattle.other_end.proofs.Sound.{Sound}
 
 module _ (f : Flow) (h : Fits f) (r : Reader) (v : Valid r) where
@@ -48,7 +48,7 @@ module _ (f : Flow) (h : Fits f) (r : Reader) (v : Valid r) where
   next-is : firstUnsent (proxyOf r) (unsentRoom r) ≡ nextBy (r .unsent)
   next-is =
       ap (λ (x : Reader). by (unsentCoherent (proxyOf r) (unsentRoom r)) (only (leb 0) (x .unsent))) (by-unsent r v)
-      ∙ ap (λ (t : Bool). by t (only (leb 0) (r .unsent))) (unsent-ok r v)
+      ∙ ap (λ (t : Bool). by t (only (leb 0) (r .unsent))) (unsent-coherent r v)
       ∙ ap nextBy (only-all (leb 0) 1 (r .unsent) (rises-are 0 (r .unsent) (v .unsent) .from) (λ n q. le-leb 0 n (omega arith)))
     where
       by : Bool → List ℕ → NextNumber

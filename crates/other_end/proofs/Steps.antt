@@ -83,8 +83,8 @@ module _ (r : Reader) (v : Valid r) where
   all-ok : roomsCoherent (recordForm r) ≡ true
   all-ok = and-right (roomsWhole (recordForm r)) (roomsCoherent (recordForm r)) (form-coherent r v)
 
-  pub unsent-ok : unsentCoherent (proxyOf r) (unsentRoom r) ≡ true
-  unsent-ok = and-left (unsentCoherent (proxyOf r) (unsentRoom r)) _ all-ok
+  pub unsent-coherent : unsentCoherent (proxyOf r) (unsentRoom r) ≡ true
+  unsent-coherent = and-left (unsentCoherent (proxyOf r) (unsentRoom r)) _ all-ok
 
   -- the rooms are whole
   unsent-long : length (unsentRoom r) ≡ r .cap
@@ -109,11 +109,11 @@ module _ (r : Reader) (v : Valid r) where
   rest-ok : (gapsCoherent (proxyOf r) (gapRoom r) && fragsCoherent (proxyOf r) samples words) ≡ true
   rest-ok = and-right (unsentCoherent (proxyOf r) (unsentRoom r)) (gapsCoherent (proxyOf r) (gapRoom r) && fragsCoherent (proxyOf r) samples words) all-ok
 
-  pub gaps-ok : gapsCoherent (proxyOf r) (gapRoom r) ≡ true
-  gaps-ok = and-left (gapsCoherent (proxyOf r) (gapRoom r)) _ rest-ok
+  pub gaps-coherent : gapsCoherent (proxyOf r) (gapRoom r) ≡ true
+  gaps-coherent = and-left (gapsCoherent (proxyOf r) (gapRoom r)) _ rest-ok
 
-  frags-ok : fragsCoherent (proxyOf r) samples words ≡ true
-  frags-ok = and-right (gapsCoherent (proxyOf r) (gapRoom r)) (fragsCoherent (proxyOf r) samples words) rest-ok
+  frags-coherent : fragsCoherent (proxyOf r) samples words ≡ true
+  frags-coherent = and-right (gapsCoherent (proxyOf r) (gapRoom r)) (fragsCoherent (proxyOf r) samples words) rest-ok
 
   acked-is : rankOf (numberAt (r .acked)) ≡ r .acked
   acked-is = rank-back (r .acked) (omega (arith, v .acked))
@@ -145,7 +145,7 @@ module _ (r : Reader) (v : Valid r) where
   pub by-unsent-is : (fits : Bool) → fits ≡ true → (rows : List Row) (f : Reader → Reader) → unsentBy fits rows f (proxyOf r) (unsentRoom r) ≡ unsentOut (r .cap) false rows f (seenUnsent r)
   by-unsent-is fits ef rows f =
       ap (λ (x : Reader). unsentOut (length (unsentRoom r)) (not (fits && unsentCoherent (proxyOf r) (unsentRoom r))) rows f x) by-unsent
-      ∙ ap (λ (t : Bool). unsentOut (length (unsentRoom r)) (not t) rows f (seenUnsent r)) (and-both fits (unsentCoherent (proxyOf r) (unsentRoom r)) ef unsent-ok)
+      ∙ ap (λ (t : Bool). unsentOut (length (unsentRoom r)) (not t) rows f (seenUnsent r)) (and-both fits (unsentCoherent (proxyOf r) (unsentRoom r)) ef unsent-coherent)
       ∙ ap (λ (m : ℕ). unsentOut m false rows f (seenUnsent r)) unsent-long
 
   -- a new sample's number is never out of range: a write is refused with 5 before
@@ -169,7 +169,7 @@ module _ (r : Reader) (v : Valid r) where
       → gapsBy fits (rows (byGaps (proxyOf r) (gapRoom r))) f (proxyOf r) (gapRoom r) ≡ gapsOut 256 false (rows (seenGaps r)) f (seenGaps r)
   by-gaps-is fits ef rows f =
       ap (λ (x : Reader). gapsOut (length (gapRoom r)) (not (fits && gapsCoherent (proxyOf r) (gapRoom r))) (rows x) f x) by-gaps
-      ∙ ap (λ (t : Bool). gapsOut (length (gapRoom r)) (not t) (rows (seenGaps r)) f (seenGaps r)) (and-both fits (gapsCoherent (proxyOf r) (gapRoom r)) ef gaps-ok)
+      ∙ ap (λ (t : Bool). gapsOut (length (gapRoom r)) (not t) (rows (seenGaps r)) f (seenGaps r)) (and-both fits (gapsCoherent (proxyOf r) (gapRoom r)) ef gaps-coherent)
       ∙ ap (λ (m : ℕ). gapsOut m false (rows (seenGaps r)) f (seenGaps r)) gaps-long
 
   -- REQUESTED FRAGMENTS
@@ -184,7 +184,7 @@ module _ (r : Reader) (v : Valid r) where
       → fragsBy fits (rows (byFrags (proxyOf r) samples words)) f (proxyOf r) samples words ≡ fragsOut 16 false (rows (seenFrags r)) f (seenFrags r)
   by-frags-is fits ef rows f =
       ap (λ (x : Reader). fragsOut (length samples) (not (fits && fragsCoherent (proxyOf r) samples words)) (rows x) f x) by-frags
-      ∙ ap (λ (t : Bool). fragsOut (length samples) (not t) (rows (seenFrags r)) f (seenFrags r)) (and-both fits (fragsCoherent (proxyOf r) samples words) ef frags-ok)
+      ∙ ap (λ (t : Bool). fragsOut (length samples) (not t) (rows (seenFrags r)) f (seenFrags r)) (and-both fits (fragsCoherent (proxyOf r) samples words) ef frags-coherent)
       ∙ ap (λ (m : ℕ). fragsOut m false (rows (seenFrags r)) f (seenFrags r)) samples-long
 
   -- EVERY ONE OF THESE CALLS, where `last` is the last number written
@@ -243,7 +243,7 @@ module _ (r : Reader) (v : Valid r) where
         let fits = roomFor (min (z .count) 256) (r .cap) (length (r .unsent)) (unsentRoom r) in
         let ok =
         and-both fits (unsentCoherent (proxyOf r) (unsentRoom r) && gapsCoherent (proxyOf r) (gapRoom r)) (fits-unsent (min (z .count) 256))
-        (and-both (unsentCoherent (proxyOf r) (unsentRoom r)) (gapsCoherent (proxyOf r) (gapRoom r)) unsent-ok gaps-ok) in
+        (and-both (unsentCoherent (proxyOf r) (unsentRoom r)) (gapsCoherent (proxyOf r) (gapRoom r)) unsent-coherent gaps-coherent) in
         let out = ackOut beside after (length (unsentRoom r)) (length (gapRoom r)) in
         let no : (negative (numberAt (z .base)) || not (inRange (numberAt last) topNumber)) ≡ false = ap (λ (t : Bool). t || not (inRange (numberAt last) topNumber)) (at-least-0 (z .base)) ∙ ap not within in
         ap (λ (b : ℕ). out (fits && (unsentCoherent (proxyOf r) (unsentRoom r) && gapsCoherent (proxyOf r) (gapRoom r))) (negative (numberAt (z .base)) || not (inRange (numberAt last) topNumber)) (rankOf (numberAt last)) (record { base = b; count = z .count; words = z .words }) (byBoth (proxyOf r) (unsentRoom r) (gapRoom r))) (rank-back (z .base) (omega (arith, top)))

@@ -80,11 +80,11 @@ new-alone h hs e = go (eqb (h .id) 0) (isThere (h .id) (readers hs)) refl e
     go false false q n = refl
     go false true q n = absurd (false≢true (sym n ∙ (λ i. eq-eqb _ _ (low-has (h .id) hs q) i && true)))
 
-pub gone-fine : (hs : List ReaderHead) → gone hs .fine ≡ different (readers hs)
-gone-fine [] = refl
-gone-fine (h ∷ hs) = go (gone-fine hs) (meetSlot (gone hs) h .again) refl
+pub gone-different : (hs : List ReaderHead) → gone hs .different ≡ different (readers hs)
+gone-different [] = refl
+gone-different (h ∷ hs) = go (gone-different hs) (meetSlot (gone hs) h .again) refl
   where
-    go : gone hs .fine ≡ different (readers hs) → (b : Bool) → meetSlot (gone hs) h .again ≡ b → (gone hs .fine && alone (cond b hs []) h) ≡ (alone hs h && different (readers hs))
+    go : gone hs .different ≡ different (readers hs) → (b : Bool) → meetSlot (gone hs) h .again ≡ b → (gone hs .different && alone (cond b hs []) h) ≡ (alone hs h && different (readers hs))
     go e true q = (λ i. e i && alone hs h) ∙ and-comm (different (readers hs)) (alone hs h)
     go e false q = (λ i. e i && (or-yes (eqb (h .id) 0) ∙ sym (new-alone h hs q)) i) ∙ and-comm (different (readers hs)) (alone hs h)
 

@@ -29,7 +29,7 @@ aloneFrom hs from h = alone (drop from hs) h
 
 -- nothing is met yet
 abbrev pub noneMet : Met
-noneMet = record { low = 0; again = false; fine = true }
+noneMet = record { low = 0; again = false; different = true }
 
 -- the low six bits of an id, as one bit of a word
 abbrev pub idBit : ℕ → ℕ
@@ -37,11 +37,11 @@ idBit i = 1 * 2 ^ (i % 64) % 18446744073709551616
 
 -- one slot: where its bit is there already, one with its id may be there too; a free slot isn't looked for
 abbrev pub meetSlot : Met → ReaderHead → Met
-meetSlot m h = record { low = bitOr (m .low) (idBit (h .id)); again = eqb (bitOr (m .low) (idBit (h .id))) (m .low) && not (eqb (h .id) 0); fine = m .fine }
+meetSlot m h = record { low = bitOr (m .low) (idBit (h .id)); again = eqb (bitOr (m .low) (idBit (h .id))) (m .low) && not (eqb (h .id) 0); different = m .different }
 
 -- where to look from: past the end, where none can be there
 abbrev pub lookFrom : Met → ℕ → ℕ
 lookFrom m next = cond (m .again) next 18446744073709551615
 
 abbrev pub toldAlone : Met → Bool → Met
-toldAlone m alone = record { low = m .low; again = m .again; fine = m .fine && alone }
+toldAlone m alone = record { low = m .low; again = m .again; different = m .different && alone }

@@ -14,7 +14,7 @@ use crate::walk::Ask;
 use crate::walk::Seen;
 use crate::walk::begin;
 use crate::walk::free_slot;
-use crate::walk::is_whole;
+use crate::walk::walk_coherent;
 use numbers::Answer;
 use numbers::SequenceNumber;
 
@@ -28,7 +28,7 @@ pub struct Put {
 fn list_answer(s: Seen, limit: bool, range: bool, reader: bool, full: bool) -> Answer
     ensures { λ r. ⌜ r ≡ answerOf (listRows limit (walkCoherent s) range reader full) ⌝ }
 {
-    let coherent = is_whole(s);
+    let coherent = walk_coherent(s);
     Answer::done()
         .unless(full, Answer::READERS_FULL)
         .unless(reader, Answer::READER)

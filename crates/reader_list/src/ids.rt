@@ -16,7 +16,7 @@ pub struct Sought {
 pub struct Met {
     pub low: u64,
     pub again: bool,
-    pub fine: bool,
+    pub different: bool,
 }
 
 fn sought_for(h: ReaderHead) -> Sought
@@ -63,7 +63,7 @@ fn none_met() -> Met
     Met {
         low: 0,
         again: false,
-        fine: true,
+        different: true,
     }
 }
 
@@ -75,7 +75,7 @@ fn meet_slot(m: Met, h: ReaderHead) -> Met
     Met {
         low,
         again,
-        fine: m.fine,
+        different: m.different,
     }
 }
 
@@ -92,14 +92,14 @@ fn told_alone(m: Met, alone: bool) -> Met
     Met {
         low: m.low,
         again: m.again,
-        fine: m.fine & alone,
+        different: m.different & alone,
     }
 }
 
-fn fine_end(m: Met) -> bool
-    ensures { λ r. ⌜ r ≡ m .fine ⌝ }
+fn different_end(m: Met) -> bool
+    ensures { λ r. ⌜ r ≡ m .different ⌝ }
 {
-    m.fine
+    m.different
 }
 
 pub fn are_different(list: &[ReaderHead]) -> bool
@@ -116,5 +116,5 @@ pub fn are_different(list: &[ReaderHead]) -> bool
         acc = told_alone(acc, alone);
         i = at;
     }
-    fine_end(acc)
+    different_end(acc)
 }

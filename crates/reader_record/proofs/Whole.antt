@@ -186,8 +186,8 @@ module _ (r : Reader) (v : Valid r) where
   view-form =
       rw (acked-is, prefix-is, room-take (r .cap) (r .unsent), room-take 256 (r .gaps), rooms-hold 16 (r .frags) (entries-in r v) (v .frags-few))
 
-  head-ok : proxyCoherent (proxyOf r) ≡ true
-  head-ok =
+  is-coherent : proxyCoherent (proxyOf r) ≡ true
+  is-coherent =
       rw (
         range-of (r .acked) 9223372036854775807 (omega arith) (v .acked),
         range-of (r .prefix) topNumber (omega arith) (v .prefix),
@@ -210,9 +210,9 @@ module _ (r : Reader) (v : Valid r) where
       (and-both (eqb (length (unsentRoom r)) (r .cap)) (eqb (length (gapRoom r)) 256 && eqb (length (samplesRoom 16 (r .frags))) 16) (eq-eqb (length (unsentRoom r)) (r .cap) lu)
       (and-both (eqb (length (gapRoom r)) 256) (eqb (length (samplesRoom 16 (r .frags))) 16) (eq-eqb (length (gapRoom r)) 256 lg) (eq-eqb (length (samplesRoom 16 (r .frags))) 16 ls)))
       (and-both (unsentCoherent (proxyOf r) (unsentRoom r)) (gapsCoherent (proxyOf r) (gapRoom r) && fragsCoherent (proxyOf r) (samplesRoom 16 (r .frags)) (wordsRoom 16 (r .frags)))
-      (and-both (proxyCoherent (proxyOf r)) (leb (length (unsentRoom r)) (r .cap) && runCoherent 0 (length (r .unsent)) (unsentRoom r)) head-ok
+      (and-both (proxyCoherent (proxyOf r)) (leb (length (unsentRoom r)) (r .cap) && runCoherent 0 (length (r .unsent)) (unsentRoom r)) is-coherent
       (and-both (leb (length (unsentRoom r)) (r .cap)) (runCoherent 0 (length (r .unsent)) (unsentRoom r)) (le-leb (length (unsentRoom r)) (r .cap) (omega (arith, lu))) u))
       (and-both (gapsCoherent (proxyOf r) (gapRoom r)) (fragsCoherent (proxyOf r) (samplesRoom 16 (r .frags)) (wordsRoom 16 (r .frags)))
-      (and-both (proxyCoherent (proxyOf r)) (leb (length (gapRoom r)) 256 && runCoherent (gapFloor (proxyOf r)) (length (r .gaps)) (gapRoom r)) head-ok
+      (and-both (proxyCoherent (proxyOf r)) (leb (length (gapRoom r)) 256 && runCoherent (gapFloor (proxyOf r)) (length (r .gaps)) (gapRoom r)) is-coherent
       (and-both (leb (length (gapRoom r)) 256) (runCoherent (gapFloor (proxyOf r)) (length (r .gaps)) (gapRoom r)) (le-leb (length (gapRoom r)) 256 (omega (arith, lg))) g))
-      (and-both (proxyCoherent (proxyOf r)) (fragRoomsCoherent (length (r .frags)) (samplesRoom 16 (r .frags)) (wordsRoom 16 (r .frags))) head-ok (rooms-pass 16 (r .frags) (entries-in r v) (v .frags-few) (omega arith)))))
+      (and-both (proxyCoherent (proxyOf r)) (fragRoomsCoherent (length (r .frags)) (samplesRoom 16 (r .frags)) (wordsRoom 16 (r .frags))) is-coherent (rooms-pass 16 (r .frags) (entries-in r v) (v .frags-few) (omega arith)))))

@@ -27,15 +27,15 @@ fn all_hold(words: &[u64], count: usize) -> bool
     requires { ⌜ (64 * count ≤ length (now words)) × (count ≤ 16) ⌝ }
     ensures { λ r. ⌜ r ≡ allHold count (now (words .entry)) ⌝ }
 {
-    let mut good = true;
+    let mut held = true;
     let mut i = 0;
     while i < count {
         let a = i * FragmentNumber::WORDS;
         let e = a + FragmentNumber::WORDS;
-        good = good & bits::any(&words[a..e]);
+        held = held & bits::any(&words[a..e]);
         i += 1;
     }
-    good
+    held
 }
 
 // Whether the rooms are what a reader record's are, as far as they are lent: up to 16 samples, and 64 words for each.
@@ -48,7 +48,7 @@ pub fn coherent(samples: &[u64], words: &[u64], count: usize) -> bool
     if words.len() != samples.len() * FragmentNumber::WORDS {
         return false;
     }
-    if !rising::run::run_ok(samples, count, 0) {
+    if !rising::run::run_coherent(samples, count, 0) {
         return false;
     }
     let a = count * FragmentNumber::WORDS;

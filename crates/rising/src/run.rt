@@ -50,7 +50,7 @@ pub fn all_zero(s: &[u64]) -> bool
 }
 
 // Whether a room holds `count` rising numbers above `above`, and zeros after them.
-pub fn run_ok(s: &[u64], count: usize, above: u64) -> bool
+pub fn run_coherent(s: &[u64], count: usize, above: u64) -> bool
     ensures { λ r. ⌜ r ≡ runCoherent above count (now (s .entry)) ⌝ }
 {
     if s.len() < count {

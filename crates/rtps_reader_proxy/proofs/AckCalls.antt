@@ -74,10 +74,10 @@ stayed-ok count last base a room r = go (isLate a base)
 
 module _ (h : ReaderProxy) (unsent gaps : List ℕ) (set : SequenceNumberSet) (last : ℕ) (k : Ackable h unsent gaps set last) where
   us : UnsentIs h unsent
-  us = unsent-is h unsent (k .unsent-ok)
+  us = unsent-is h unsent (k .unsent-coherent)
 
   gs : GapsAre h gaps
-  gs = gaps-are h gaps (k .gaps-ok)
+  gs = gaps-are h gaps (k .gaps-coherent)
 
   abbrev A : ℕ
   A = rankOf (h .«all_acked_before»)
@@ -92,7 +92,7 @@ module _ (h : ReaderProxy) (unsent gaps : List ℕ) (set : SequenceNumberSet) (l
   held = take (h .«gap_count») gaps
 
   pub stayable : Stayable (h .«unsent_count») unsent last
-  stayable = record { run = and-right (leb (length unsent) (h .«unsent_cap»)) (runCoherent 0 (h .«unsent_count») unsent) (and-right (proxyCoherent h) (leb (length unsent) (h .«unsent_cap») && runCoherent 0 (h .«unsent_count») unsent) (k .unsent-ok)); top = k .top }
+  stayable = record { run = and-right (leb (length unsent) (h .«unsent_cap»)) (runCoherent 0 (h .«unsent_count») unsent) (and-right (proxyCoherent h) (leb (length unsent) (h .«unsent_cap») && runCoherent 0 (h .«unsent_count») unsent) (k .unsent-coherent)); top = k .top }
 
   module _ (a base low c : ℕ) (v : List ℕ) (ea : a ≡ rankOf (h .«all_acked_before»)) (eb : base ≡ rankOf (set .base)) (el : low ≡ max a (max base 1))
       (s : Gives1 c v (runLeft (length (staying last base a (take (h .«unsent_count») unsent))) (length unsent) (staying last base a (take (h .«unsent_count») unsent)))) where
@@ -187,8 +187,8 @@ module _ (set : SequenceNumberSet) (last : SequenceNumber) (h : ReaderProxy) (un
         let rg = or-none (negative (set .base)) (not (inRange last topNumber)) (c 2 refl) in
         record {
           fits = and-left (ackFits h unsent set) (unsentCoherent h unsent && gapsCoherent h gaps) all;
-          unsent-ok = and-left (unsentCoherent h unsent) (gapsCoherent h gaps) both;
-          gaps-ok = and-right (unsentCoherent h unsent) (gapsCoherent h gaps) both;
+          unsent-coherent = and-left (unsentCoherent h unsent) (gapsCoherent h gaps) both;
+          gaps-coherent = and-right (unsentCoherent h unsent) (gapsCoherent h gaps) both;
           bits = ltb-false 256 (set .count) (c 3 refl);
           base = rg .0;
           top = omega (arith, in-range last topNumber (not-false (inRange last topNumber) (rg .1)) .1);

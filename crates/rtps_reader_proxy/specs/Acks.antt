@@ -96,8 +96,8 @@ pub record Stayable (count : ℕ) (room : List ℕ) (last : ℕ) : Type 0 where
 -- an acknowledgement that isn't refused
 pub record Ackable (h : ReaderProxy) (unsent gaps : List ℕ) (set : SequenceNumberSet) (last : ℕ) : Type 0 where
   pub fits : ackFits h unsent set ≡ true
-  pub unsent-ok : unsentCoherent h unsent ≡ true
-  pub gaps-ok : gapsCoherent h gaps ≡ true
+  pub unsent-coherent : unsentCoherent h unsent ≡ true
+  pub gaps-coherent : gapsCoherent h gaps ≡ true
   pub bits : set .count ≤ mostBits
   pub base : negative (set .base) ≡ false
   pub top : last ≤ topNumber

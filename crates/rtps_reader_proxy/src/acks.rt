@@ -43,14 +43,14 @@ fn stay(unsent: &mut [u64], count: usize, a: u64, base: u64, last: u64) -> usize
 }
 
 // The answer of an acknowledgement: 1, 3, 2, 12 or done.
-fn ack_answer(good: bool, bits: bool, range: bool, ahead: bool) -> Answer
-    ensures { λ r. ⌜ r ≡ answerOf (row 1 refl (not good) ∷ row 3 refl bits ∷ row 2 refl range ∷ row 12 refl ahead ∷ []) ⌝ }
+fn ack_answer(coherent: bool, bits: bool, range: bool, ahead: bool) -> Answer
+    ensures { λ r. ⌜ r ≡ answerOf (row 1 refl (not coherent) ∷ row 3 refl bits ∷ row 2 refl range ∷ row 12 refl ahead ∷ []) ⌝ }
 {
     Answer::done()
         .unless(ahead, Answer::AHEAD)
         .unless(range, Answer::RANGE)
         .unless(bits, Answer::BITS)
-        .unless(!good, Answer::INCOHERENT)
+        .unless(!coherent, Answer::INCOHERENT)
 }
 
 impl ReaderProxy {
@@ -66,13 +66,13 @@ impl ReaderProxy {
     {
         let asked = arith::smaller(set.count as usize, SequenceNumberSet::MOST_MEMBERS);
         let fits = room_for(unsent, self.unsent_count, self.unsent_cap, asked);
-        let good = self.unsent_ok(unsent) & self.gaps_ok(gaps);
+        let coherent = self.unsent_coherent(unsent) & self.gaps_coherent(gaps);
         let within = last.within(SequenceNumber::LAST);
         let end = last.rank();
         let bits = SequenceNumberSet::MOST_BITS < set.count;
         let range = set.base.is_negative() | !within;
         let ahead = end + 1 < arith::larger(set.base.rank(), 1);
-        ack_answer(fits & good, bits, range, ahead)
+        ack_answer(fits & coherent, bits, range, ahead)
     }
 
     // The proxy after an acknowledgement, with what is left out of `total` numbers.

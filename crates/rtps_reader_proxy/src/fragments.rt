@@ -44,9 +44,9 @@ fn cannot_ask(n: SequenceNumber, set: FragmentNumberSet) -> bool
     ensures { λ r. ⌜ r ≡ cannotAsk n set ⌝ }
 {
     let base = set.base.rank();
-    let good = n.is_sample();
+    let sample = n.is_sample();
     let above = set.reaches(FragmentNumber::PAST);
-    !good | ((base == 0) | above)
+    !sample | ((base == 0) | above)
 }
 
 // The answer of a question for the next fragment that found one, or met a row.
@@ -75,12 +75,12 @@ fn next_piece(answer: Answer, n: u64, f: u64) -> NextFragRequested
 
 impl ReaderProxy {
     // Whether the proxy and the rooms of the fragments are coherent.
-    pub fn frags_ok(self, samples: &[u64], words: &[u64]) -> bool
+    pub fn frags_coherent(self, samples: &[u64], words: &[u64]) -> bool
         ensures { λ r. ⌜ r ≡ fragsCoherent self (now (samples .entry)) (now (words .entry)) ⌝ }
     {
-        let head = self.head_ok();
+        let proxy = self.is_coherent();
         let rooms = table::coherent(samples, words, self.frag_count);
-        head & rooms
+        proxy & rooms
     }
 
     // The answer of a call that is lent the rooms of the fragments, where `fits` says whether what joins has room: 1, 3, 2, 10 or done.
@@ -95,12 +95,12 @@ impl ReaderProxy {
     ) -> Answer
         ensures { λ r. ⌜ r ≡ answerOf (row 1 refl (not (fits && fragsCoherent self (now (samples .entry)) (now (words .entry)))) ∷ row 3 refl bits ∷ row 2 refl range ∷ row 10 refl full ∷ []) ⌝ }
     {
-        let good = fits & self.frags_ok(samples, words);
+        let coherent = fits & self.frags_coherent(samples, words);
         Answer::done()
             .unless(full, Answer::FRAGS_FULL)
             .unless(range, Answer::RANGE)
             .unless(bits, Answer::BITS)
-            .unless(!good, Answer::INCOHERENT)
+            .unless(!coherent, Answer::INCOHERENT)
     }
 
     // Whether a request needs a slot and finds none.
@@ -198,8 +198,12 @@ impl ReaderProxy {
         ensures { λ r. ⌜ r ≡ nextFragOf at self (now (samples .entry)) (now (words .entry)) ⌝ }
     {
         let next = table::next(samples, words, self.frag_count, at.from);
-        let good = self.frags_ok(samples, words);
-        next_piece(Answer::found(good, next.none), next.sample, next.fragment)
+        let coherent = self.frags_coherent(samples, words);
+        next_piece(
+            Answer::found(coherent, next.none),
+            next.sample,
+            next.fragment,
+        )
     }
 
     // Whether any fragment is requested.

@@ -50,10 +50,10 @@ impl ReaderProxy {
     fn check_unsent(self, unsent: &[u64], fits: bool, range: bool) -> Answer
         ensures { λ r. ⌜ r ≡ answerOf (row 1 refl (not (fits && unsentCoherent self (now (unsent .entry)))) ∷ row 2 refl range ∷ []) ⌝ }
     {
-        let good = fits & self.unsent_ok(unsent);
+        let coherent = fits & self.unsent_coherent(unsent);
         Answer::done()
             .unless(range, Answer::RANGE)
-            .unless(!good, Answer::INCOHERENT)
+            .unless(!coherent, Answer::INCOHERENT)
     }
 
     fn with_unsent(mut self, answer: Answer, count: usize) -> Changed
@@ -81,8 +81,8 @@ impl ReaderProxy {
     fn next_is(self, unsent: &[u64], n: u64) -> NextNumber
         ensures { λ r. ⌜ r ≡ nextNumber (row 1 refl (not (unsentCoherent self (now (unsent .entry)))) ∷ row 14 refl (eqb n 0) ∷ []) n ⌝ }
     {
-        let good = self.unsent_ok(unsent);
-        NextNumber::of(Answer::found(good, n == 0), n)
+        let coherent = self.unsent_coherent(unsent);
+        NextNumber::of(Answer::found(coherent, n == 0), n)
     }
 
     // The first unsent number at or after the cursor, and the cursor past it.

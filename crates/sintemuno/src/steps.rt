@@ -28,8 +28,8 @@ use writer_steps::many::send_many;
 use writer_steps::readers::depart_settled;
 use writer_steps::readers::match_settled;
 use writer_steps::send::send_first;
+use writer_write::coherent::places_coherent;
 use writer_write::put::put_all;
-use writer_write::sound::all_sound;
 use writer_write::write::admitted;
 
 // The first unsent number is marked sent: as data if it is retained, else as a gap.
@@ -74,8 +74,8 @@ pub extern "C" fn sintemuno_write(
 ) -> Numbered
     ensures { λ r. ⌜ Wrote r (now (flow .exit)) (now (store .exit)) (now (lens .exit)) (now (proxies .exit)) (now (unsent .exit)) (writeOf (now (flow .entry)) (now (store .entry)) (now (lens .entry)) (now (payload .entry)) opted (now (proxies .entry)) (now (unsent .entry))) ⌝ }
 {
-    let sound = all_sound(proxies, unsent, true);
-    let m = admitted(*flow, store, lens, payload, opted, sound);
+    let coherent = places_coherent(proxies, unsent, true);
+    let m = admitted(*flow, store, lens, payload, opted, coherent);
     *flow = m.flow;
     put_all(proxies, unsent, m.numbered)
 }

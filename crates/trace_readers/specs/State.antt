@@ -42,4 +42,4 @@ withReader first p t = record { started = t .started; flow = t .flow; heads = t 
 
 -- 1, where a record and its rooms aren't coherent
 abbrev pub ownAnswer : Bool → Answer
-ownAnswer good = answerOf (row 1 refl (not good) ∷ [])
+ownAnswer coherent = answerOf (row 1 refl (not coherent) ∷ [])

@@ -19,7 +19,7 @@ impl Trace {
         ensures { λ r. ⌜ Gives1 r (now (unsent .exit)) (sentFollowed first looked n self (now (unsent .entry))) ⌝ }
     {
         let proxy = self.reader(first);
-        let own = coherence(proxy.unsent_ok(unsent));
+        let own = coherence(proxy.unsent_coherent(unsent));
         let flow = self.flow;
         let woken = flow.with_sent_frontier(n);
         let told = woken.told;

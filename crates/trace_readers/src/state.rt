@@ -143,8 +143,8 @@ impl Trace {
 }
 
 // 1, where a record and its rooms aren't coherent.
-pub fn coherence(good: bool) -> Answer
-    ensures { λ r. ⌜ r ≡ ownAnswer good ⌝ }
+pub fn coherence(coherent: bool) -> Answer
+    ensures { λ r. ⌜ r ≡ ownAnswer coherent ⌝ }
 {
-    Answer::coherence(good)
+    Answer::coherence(coherent)
 }

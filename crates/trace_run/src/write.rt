@@ -54,7 +54,7 @@ fn told(head: ReaderHead, proxy: ReaderProxy, unsent: &mut [u64], n: SequenceNum
 }
 
 // Whether the unsent numbers of both readers are coherent.
-fn both_ok(trace: Trace, large: &[u64]) -> bool
+fn both_coherent(trace: Trace, large: &[u64]) -> bool
     requires { ⌜ length (now large) ≡ 4352 ⌝ }
     ensures { λ r. ⌜ r ≡ bothCoherent trace (now (large .entry)) ⌝ }
 {
@@ -63,7 +63,7 @@ fn both_ok(trace: Trace, large: &[u64]) -> bool
     let a = 256;
     let b = 1280;
     let e = 2304;
-    one.unsent_ok(&large[a..b]) & two.unsent_ok(&large[b..e])
+    one.unsent_coherent(&large[a..b]) & two.unsent_coherent(&large[b..e])
 }
 
 // Both readers told.
@@ -92,7 +92,7 @@ fn written(trace: Trace, payload: &[u8], store: &mut [u8], large: &mut [u64]) ->
     requires { ⌜ (length (now store) ≡ 4096) × (length (now large) ≡ 4352) ⌝ }
     ensures { λ r. ⌜ Gives2 r (now (store .exit)) (now (large .exit)) (writtenOf (now (payload .entry)) trace (now (store .entry)) (now (large .entry))) ⌝ }
 {
-    let own = coherence(both_ok(trace, large));
+    let own = coherence(both_coherent(trace, large));
     if own.number != 0 {
         return trace.refused(own);
     }

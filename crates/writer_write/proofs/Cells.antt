@@ -5,8 +5,8 @@ use Rattle.writer_send_buffer.proofs.Cells.{numbered}
 use Rattle.writer_steps.proofs.Cells.{proxy}
 use Rattle.writer_write.proofs.put.ToldReader as Told′
 use Rattle.writer_write.proofs.put.ToldReader.Laws as Told″
-use Rattle.writer_write.proofs.sound.SoundReader as Sound′
-use Rattle.writer_write.proofs.sound.SoundReader.Laws as Sound″
+use Rattle.writer_write.proofs.coherent.SeenReader as Seen′
+use Rattle.writer_write.proofs.coherent.SeenReader.Laws as Seen″
 
 abbrev pub told-reader : Moved numbered proxy
 told-reader =
@@ -18,12 +18,12 @@ told-reader =
       made = λ m ok ok′. LL.owes Told′.the-type Told″.the-laws m (ok, (ok′, tt));
     })
 
-abbrev pub sound-reader : Moved boolean proxy
-sound-reader =
-    pairOf boolean proxy Sound′.the-type Sound″.the-plain Sound″.the-copy (λ m. m .sound) (λ m. m .proxy)
+abbrev pub seen-reader : Moved boolean proxy
+seen-reader =
+    pairOf boolean proxy Seen′.the-type Seen″.the-plain Seen″.the-copy (λ m. m .coherent) (λ m. m .proxy)
     (record {
-      tells = LL.tells Sound′.the-type Sound″.the-laws;
-      typed = λ 𝓤 H A W. LL.lawful Sound′.the-type Sound″.the-laws 𝓤 H A W .typed;
-      apart = λ m vs is. (LL.owed Sound′.the-type Sound″.the-laws m vs is .0, LL.owed Sound′.the-type Sound″.the-laws m vs is .1 .0);
-      made = λ m ok ok′. LL.owes Sound′.the-type Sound″.the-laws m (ok, (ok′, tt));
+      tells = LL.tells Seen′.the-type Seen″.the-laws;
+      typed = λ 𝓤 H A W. LL.lawful Seen′.the-type Seen″.the-laws 𝓤 H A W .typed;
+      apart = λ m vs is. (LL.owed Seen′.the-type Seen″.the-laws m vs is .0, LL.owed Seen′.the-type Seen″.the-laws m vs is .1 .0);
+      made = λ m ok ok′. LL.owes Seen′.the-type Seen″.the-laws m (ok, (ok′, tt));
     })

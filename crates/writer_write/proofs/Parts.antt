@@ -18,10 +18,10 @@ use Rattle.rising.specs.Runs.{over, inRoom, newest}
 use Rattle.rtps_reader_proxy.specs.Parts.{countUnsent}
 use Rattle.rtps_reader_proxy.specs.declared.proxy.ReaderProxy.{ReaderProxy}
 use Rattle.writer_send_buffer.specs.declared.flow.Numbered.{Numbered}
-use Rattle.writer_write.specs.declared.sound.SoundReader.{SoundReader}
+use Rattle.writer_write.specs.declared.coherent.SeenReader.{SeenReader}
 use Rattle.writer_write.specs.Write.{UnsentPart}
 use Rattle.writer_write.specs.Places.{strideOf, ownOf, readerAt}
-use Rattle.writer_write.specs.Sound.{placeCoherent}
+use Rattle.writer_write.specs.Coherent.{placeCoherent}
 use Rattle.writer_write.specs.Turns.{coherentAt, runWith, withNumber, putOne, putAt}
 
 -- it is inside its stretch, and within the cap
@@ -100,10 +100,10 @@ module _ (h : ReaderProxy) (u : List ℕ) (i n : ℕ) where
   span-is z e = add-sub-cancel-left start z ∙ e
 
   -- it looked at it
-  pub sound-is : (t : Bool) (z : ℕ) → z ≡ own → (ok : Bool) → ok ≡ placeCoherent h (take (start + z - start) (drop start u))
-      → _≡_ {A = SoundReader} (record { sound = t && (leb n 64 && ok); proxy = h }) (coherentAt t h u i n .result)
-  sound-is t z ez ok e =
-      ap (λ (b : Bool). record { sound = t && (leb n 64 && b); proxy = h }) (e ∙ ap (λ (c : ℕ). placeCoherent h (take c (drop start u))) (span-is z ez))
+  pub coherent-is : (t : Bool) (z : ℕ) → z ≡ own → (ok : Bool) → ok ≡ placeCoherent h (take (start + z - start) (drop start u))
+      → _≡_ {A = SeenReader} (record { coherent = t && (leb n 64 && ok); proxy = h }) (coherentAt t h u i n .result)
+  coherent-is t z ez ok e =
+      ap (λ (b : Bool). record { coherent = t && (leb n 64 && b); proxy = h }) (e ∙ ap (λ (c : ℕ). placeCoherent h (take c (drop start u))) (span-is z ez))
 
   -- nothing was given, and nothing is put
   pub put-none : (m : Numbered) → (m .answer .number ≡ 0 → ⊥) → Gives1 (record { numbered = m; proxy = h }) u (putAt m h u i n)

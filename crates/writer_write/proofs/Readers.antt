@@ -28,12 +28,12 @@ use Rattle.reader_record.proofs.Kept.{notified-valid}
 use Rattle.writer_send_buffer.specs.declared.flow.WriterSendBuffer.{WriterSendBuffer}
 use Rattle.writer_send_buffer.specs.Samples.{admitOf}
 use Rattle.writer_write.specs.Write.{told, toldAll, Written}
-use Rattle.writer_write.specs.Sound.{placesCoherent}
+use Rattle.writer_write.specs.Coherent.{placesCoherent}
 use Rattle.writer_write.specs.InPlace.{writeOf}
 use Rattle.writer_write.specs.Standing.{standing, roomy, allUnsentCoherent, unsentPartOf}
 use Rattle.writer_write.proofs.Tells.{Given}
 use Rattle.writer_write.proofs.Writes.{is-given}
-use Rattle.writer_write.proofs.Standing.{standing-sound, whole-after}
+use Rattle.writer_write.proofs.Standing.{standing-coherent, whole-after}
 
 abbrev pub AllValid : List Reader → Type 0
 AllValid [] = Unit {0}
@@ -83,8 +83,8 @@ module _ (hs : List ReaderProxy) (u : List ℕ) (room : roomy hs u ≡ true) (rs
   ok : allUnsentCoherent (standing hs u) ≡ true
   ok = ap allUnsentCoherent stand ∙ all-ok rs valid
 
-  pub readers-sound : placesCoherent hs u ≡ true
-  readers-sound = standing-sound hs u room ok
+  pub readers-coherent : placesCoherent hs u ≡ true
+  readers-coherent = standing-coherent hs u room ok
 
   module _ (f : WriterSendBuffer) (store lens payload : List ℕ) (opted : Bool) where
     numbered-is : writeOf f store lens payload opted hs u .result ≡ admitOf f store lens payload opted .result

@@ -18,12 +18,12 @@ use Rattle.writer_send_buffer.specs.declared.flow.Numbered.{Numbered}
 use Rattle.writer_send_buffer.specs.Samples.{admitOf}
 use Rattle.writer_write.specs.Write.{UnsentPart, writeStep}
 use Rattle.writer_write.specs.Places.{isFree, strideOf, readerAt, readersFrom, readersIn, proxiesOf, laidFrom}
-use Rattle.writer_write.specs.Sound.{placeCoherent, placesCoherentFrom, placesCoherent}
+use Rattle.writer_write.specs.Coherent.{placeCoherent, placesCoherentFrom, placesCoherent}
 use Rattle.writer_write.specs.InPlace.{LeftByWrite, sideBySide, writeIncoherent, writeOf}
 use Rattle.writer_write.specs.Standing.{ReaderPlace, vacant, keeps, placeAt, placesFrom, places, readersAt, onReader, standing, capsFit, roomy, allUnsentCoherent, standsAs}
 use Rattle.writer_write.proofs.Tells.{toldOne, Given, all-ones}
 use Rattle.writer_write.proofs.Writes.{is-given}
-use Rattle.writer_write.proofs.WholeRooms.{cap-stays, stretch, vacant-stretch, vacant-after, part-sound, kept-long, kept-after}
+use Rattle.writer_write.proofs.WholeRooms.{cap-stays, stretch, vacant-stretch, vacant-after, part-coherent, kept-long, kept-after}
 
 readers-told : (g : UnsentPart → UnsentPart) (ps : List ReaderPlace) → readersAt (map (onReader g) ps) ≡ map g (readersAt ps)
 readers-told g [] = refl
@@ -39,10 +39,10 @@ module _ (s : ℕ) (h : ReaderProxy) (v : List ℕ) where
   place-by t = cond t (vacant h (take s v)) (keeps kept (drop (h .«unsent_cap») (take s v)))
 
 -- COHERENT
-sound-from : (n s : ℕ) → leb n 64 ≡ true → (hs : List ReaderProxy) (v : List ℕ) → capsFit s hs ≡ true → allUnsentCoherent (readersAt (placesFrom s hs v)) ≡ true → length hs * s ≤ length v → placesCoherentFrom n s hs v ≡ true
-sound-from n s few [] v fit ok f = refl
-sound-from n s few (h ∷ hs) v fit ok f =
-    go (isFree h) refl ok (λ e. sound-from n s few hs (drop s v) (and-right (leb (h .«unsent_cap») s) (capsFit s hs) fit) e (omega (arith, f, suc-mul (length hs) s, length-drop s v)))
+coherent-from : (n s : ℕ) → leb n 64 ≡ true → (hs : List ReaderProxy) (v : List ℕ) → capsFit s hs ≡ true → allUnsentCoherent (readersAt (placesFrom s hs v)) ≡ true → length hs * s ≤ length v → placesCoherentFrom n s hs v ≡ true
+coherent-from n s few [] v fit ok f = refl
+coherent-from n s few (h ∷ hs) v fit ok f =
+    go (isFree h) refl ok (λ e. coherent-from n s few hs (drop s v) (and-right (leb (h .«unsent_cap») s) (capsFit s hs) fit) e (omega (arith, f, suc-mul (length hs) s, length-drop s v)))
   where
     go : (t : Bool) → isFree h ≡ t → allUnsentCoherent (readersAt (place-by s h v t ∷ placesFrom s hs (drop s v))) ≡ true → (allUnsentCoherent (readersAt (placesFrom s hs (drop s v))) ≡ true → placesCoherentFrom n s hs (drop s v) ≡ true)
         → placesCoherentFrom n s (h ∷ hs) v ≡ true
@@ -52,7 +52,7 @@ sound-from n s few (h ∷ hs) v fit ok f =
     go false q ok rest =
         and-both (leb n 64 && placeCoherent h (readerAt s h v .unsent)) (placesCoherentFrom n s hs (drop s v))
         (and-both (leb n 64) (placeCoherent h (readerAt s h v .unsent)) few
-        (part-sound s h v (omega (arith, f, suc-mul (length hs) s)) (leb-true (h .«unsent_cap») s (and-left (leb (h .«unsent_cap») s) (capsFit s hs) fit)) (and-left (unsentCoherent h (kept s h v .unsent)) (allUnsentCoherent (readersAt (placesFrom s hs (drop s v)))) ok)))
+        (part-coherent s h v (omega (arith, f, suc-mul (length hs) s)) (leb-true (h .«unsent_cap») s (and-left (leb (h .«unsent_cap») s) (capsFit s hs) fit)) (and-left (unsentCoherent h (kept s h v .unsent)) (allUnsentCoherent (readersAt (placesFrom s hs (drop s v)))) ok)))
         (rest (and-right (unsentCoherent h (kept s h v .unsent)) (allUnsentCoherent (readersAt (placesFrom s hs (drop s v)))) ok))
 
 -- AFTERWARDS, where m is answered
@@ -127,9 +127,9 @@ module _ (hs : List ReaderProxy) (u : List ℕ) (room : roomy hs u ≡ true) (ok
   caps = and-right (leb (length hs) 64) (capsFit (strideOf (length hs) u) hs) room
 
   -- they are coherent
-  pub standing-sound : placesCoherent hs u ≡ true
-  standing-sound =
-      sound-from (length hs) (strideOf (length hs) u) (and-left (leb (length hs) 64) (capsFit (strideOf (length hs) u) hs) room) hs u caps ok (mul-div-le (length u) (length hs))
+  pub standing-coherent : placesCoherent hs u ≡ true
+  standing-coherent =
+      coherent-from (length hs) (strideOf (length hs) u) (and-left (leb (length hs) 64) (capsFit (strideOf (length hs) u) hs) room) hs u caps ok (mul-div-le (length u) (length hs))
 
   module _ (f : WriterSendBuffer) (store lens payload : List ℕ) (opted : Bool) where
     abbrev m : Numbered
@@ -144,7 +144,7 @@ module _ (hs : List ReaderProxy) (u : List ℕ) (room : roomy hs u ≡ true) (ok
     -- so the sample is admitted as it is, and each is told
     done-so : writeOf f store lens payload opted hs u ≡ laid ones
     done-so =
-        ap (λ (t : Bool). sideBySide (cond t (writeStep f store lens payload opted (readersIn hs u)) (record { writer = writeIncoherent f store lens; readers = readersIn hs u })) s u) standing-sound
+        ap (λ (t : Bool). sideBySide (cond t (writeStep f store lens payload opted (readersIn hs u)) (record { writer = writeIncoherent f store lens; readers = readersIn hs u })) s u) standing-coherent
         ∙ ap laid (sym (all-ones m (readersIn hs u)))
 
     after : After m (is-given f store lens payload opted) s hs u

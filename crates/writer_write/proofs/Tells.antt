@@ -27,7 +27,7 @@ use Rattle.reader_record.proofs.Whole.{proxy-is}
 use Rattle.writer_send_buffer.specs.declared.flow.Numbered.{Numbered}
 use Rattle.writer_write.specs.Write.{UnsentPart, told, toldAll}
 use Rattle.writer_write.specs.Places.{isFree, ownOf, readerAt, readersFrom}
-use Rattle.writer_write.specs.Sound.{placeCoherent, placesCoherentFrom}
+use Rattle.writer_write.specs.Coherent.{placeCoherent, placesCoherentFrom}
 use Rattle.writer_write.specs.Turns.{runWith, withNumber, putOne}
 use Rattle.writer_write.proofs.Parts.{own-capped}
 
@@ -135,5 +135,5 @@ puts-told m given n s hs v e = each hs v e ∙ all-ones m (readersFrom s hs v)
     each [] v e = refl
     each (h ∷ hs) v e =
         let here = leb n 64 && placeCoherent h (readerAt s h v .unsent) in
-        let sound = and-right (leb n 64) (placeCoherent h (readerAt s h v .unsent)) (and-left here (placesCoherentFrom n s hs (drop s v)) e) in
-        λ j. put-told m given (readerAt s h v) (omega (arith, length-take (ownOf s h) v, own-capped s h)) sound j ∷ each hs (drop s v) (and-right here (placesCoherentFrom n s hs (drop s v)) e) j
+        let here-coherent = and-right (leb n 64) (placeCoherent h (readerAt s h v .unsent)) (and-left here (placesCoherentFrom n s hs (drop s v)) e) in
+        λ j. put-told m given (readerAt s h v) (omega (arith, length-take (ownOf s h) v, own-capped s h)) here-coherent j ∷ each hs (drop s v) (and-right here (placesCoherentFrom n s hs (drop s v)) e) j

@@ -13,7 +13,7 @@ use Rattle.writer_send_buffer.specs.declared.flow.Numbered.{Numbered}
 use Rattle.writer_send_buffer.specs.Samples.{writeRows}
 use Rattle.writer_write.specs.Write.{told, toldAll, Written, writeStep}
 use Rattle.writer_write.specs.Places.{strideOf, ownOf, readersFrom, readersIn, proxiesOf, laidFrom}
-use Rattle.writer_write.specs.Sound.{placesCoherent}
+use Rattle.writer_write.specs.Coherent.{placesCoherent}
 use Rattle.writer_write.specs.InPlace.{LeftByWrite, sideBySide, writeIncoherent, writeOf}
 use Rattle.writer_write.proofs.Parts.{own-in}
 use Rattle.writer_write.proofs.Writes.{by-rows}

@@ -13,11 +13,11 @@ use Rattle.numbers.specs.Promise.{Left1, Left2}
 use Rattle.lent.proofs.Through.{through}
 use Rattle.rtps_reader_proxy.specs.declared.proxy.ReaderProxy.{ReaderProxy}
 use Rattle.writer_send_buffer.specs.declared.flow.Numbered.{Numbered}
-use Rattle.writer_write.specs.declared.sound.SoundReader.{SoundReader}
+use Rattle.writer_write.specs.declared.coherent.SeenReader.{SeenReader}
 use Rattle.writer_write.specs.declared.put.ToldReader.{ToldReader}
 use Rattle.writer_write.specs.Write.{UnsentPart}
 use Rattle.writer_write.specs.Places.{strideOf, ownOf, readerAt, readersFrom, proxiesOf, laidFrom}
-use Rattle.writer_write.specs.Sound.{placeCoherent, placesCoherentFrom}
+use Rattle.writer_write.specs.Coherent.{placeCoherent, placesCoherentFrom}
 use Rattle.writer_write.specs.Turns.{coherentAt, allCoherentAt, putOne, putAt, putInAll}
 use Rattle.writer_write.proofs.Parts.{own-in, put-long}
 
@@ -27,20 +27,20 @@ one-more h o = record { result = o .result; first = h ∷ o .first; second = o .
 
 -- LOOKED AT
 module _ (u : List ℕ) (n : ℕ) where
-  abbrev sound-of : SoundReader → Bool
-  sound-of r = r .sound
+  abbrev coherent-of : SeenReader → Bool
+  coherent-of r = r .coherent
 
-  abbrev same-proxy : SoundReader → ReaderProxy
+  abbrev same-proxy : SeenReader → ReaderProxy
   same-proxy r = r .proxy
 
   abbrev stride : ℕ
   stride = strideOf n u
 
-  sound-from : (hs : List ReaderProxy) (i : ℕ) (t : Bool) → through sound-of same-proxy coherentAt t hs u i n ≡ record { result = t && placesCoherentFrom n stride hs (drop (i * stride) u); first = hs; second = u }
-  sound-from [] i true = refl
-  sound-from [] i false = refl
-  sound-from (h ∷ hs) i t =
-      ap (one-more h) (sound-from hs (suc i) (t && here))
+  coherent-from : (hs : List ReaderProxy) (i : ℕ) (t : Bool) → through coherent-of same-proxy coherentAt t hs u i n ≡ record { result = t && placesCoherentFrom n stride hs (drop (i * stride) u); first = hs; second = u }
+  coherent-from [] i true = refl
+  coherent-from [] i false = refl
+  coherent-from (h ∷ hs) i t =
+      ap (one-more h) (coherent-from hs (suc i) (t && here))
       ∙ ap (λ (b : Bool). record { result = b; first = h ∷ hs; second = u })
       (and-assoc t here (placesCoherentFrom n stride hs (drop (suc i * stride) u))
       ∙ ap (λ (v : List ℕ). t && (here && placesCoherentFrom n stride hs v)) (ap (λ (k : ℕ). drop k u) (suc-mul i stride) ∙ sym (drop-drop stride (i * stride) u)))
@@ -48,9 +48,9 @@ module _ (u : List ℕ) (n : ℕ) where
       here : Bool
       here = leb n 64 && placeCoherent h (readerAt stride h (drop (i * stride) u) .unsent)
 
-pub sounds : (hs : List ReaderProxy) (u : List ℕ) (t : Bool) → through (λ (r : SoundReader). r .sound) (λ (r : SoundReader). r .proxy) coherentAt t hs u 0 (length hs) ≡ allCoherentAt t hs u
-sounds hs u t =
-    sound-from u (length hs) hs 0 t
+pub coherent-all : (hs : List ReaderProxy) (u : List ℕ) (t : Bool) → through (λ (r : SeenReader). r .coherent) (λ (r : SeenReader). r .proxy) coherentAt t hs u 0 (length hs) ≡ allCoherentAt t hs u
+coherent-all hs u t =
+    coherent-from u (length hs) hs 0 t
     ∙ ap (λ (k : ℕ). record { result = t && placesCoherentFrom (length hs) (strideOf (length hs) u) hs (drop k u); first = hs; second = u }) (zero-mul (strideOf (length hs) u))
 
 -- PUT: a stretch, x over its first numbers, and then the other stretches

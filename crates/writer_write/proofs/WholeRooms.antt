@@ -26,7 +26,7 @@ use Rattle.reader_record.proofs.UnsentInPart.{unsent-part-ok, notify-in-part}
 use Rattle.writer_send_buffer.specs.declared.flow.Numbered.{Numbered}
 use Rattle.writer_write.specs.Write.{UnsentPart, told}
 use Rattle.writer_write.specs.Places.{isFree, ownOf, readerAt}
-use Rattle.writer_write.specs.Sound.{placeCoherent}
+use Rattle.writer_write.specs.Coherent.{placeCoherent}
 use Rattle.writer_write.specs.Standing.{ReaderPlace, vacant, keeps, placeAt}
 use Rattle.writer_write.proofs.Parts.{own-in, own-capped, put-long}
 use Rattle.writer_write.proofs.Tells.{toldOne, Given, free-cap, told-free, put-told}
@@ -124,8 +124,8 @@ module _ (s : ℕ) (h : ReaderProxy) (v : List ℕ) (long : s ≤ length v) wher
             let w = ltb-false (h .«unsent_count») (h .«unsent_cap») e in
             or-right (leb 1 (length (take own whole) - h .«unsent_count»)) (leb (h .«unsent_cap») (length (take own whole))) (le-leb (h .«unsent_cap») (length (take own whole)) (omega (arith, part-long)))
 
-    pub part-sound : placeCoherent h (take own v) ≡ true
-    part-sound =
+    pub part-coherent : placeCoherent h (take own v) ≡ true
+    part-coherent =
         or-right (isFree h) (roomFor 1 (h .«unsent_cap») (h .«unsent_count») (take own v) && unsentCoherent h (take own v))
         (ap (λ (l : List ℕ). roomFor 1 (h .«unsent_cap») (h .«unsent_count») l && unsentCoherent h l) part-of
         ∙ and-both (roomFor 1 (h .«unsent_cap») (h .«unsent_count») (take own whole)) (unsentCoherent h (take own whole)) has-room (unsent-part-ok h whole ok whole-long own holds-all (own-capped s h)))
@@ -148,7 +148,7 @@ module _ (s : ℕ) (h : ReaderProxy) (v : List ℕ) (long : s ≤ length v) wher
       module _ (given : Given m) where
         after-long : length (after m .unsent) ≡ own
         after-long =
-            ap (λ (k : UnsentPart). length (k .unsent)) (sym (put-told m given (readerAt s h v) (omega (arith, length-take own v, own-capped s h)) part-sound))
+            ap (λ (k : UnsentPart). length (k .unsent)) (sym (put-told m given (readerAt s h v) (omega (arith, length-take own v, own-capped s h)) part-coherent))
             ∙ put-long m (readerAt s h v) ∙ length-take-le own v (omega (arith, own-in s h))
 
         told-long : length (toldOne m kept .unsent) ≡ h .«unsent_cap»

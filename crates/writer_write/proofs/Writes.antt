@@ -25,21 +25,21 @@ use Rattle.writer_send_buffer.specs.Samples.{writeRows, admitOf, handed, withBy
 use Rattle.writer_send_buffer.proofs.Sound.{written-is}
 use Rattle.writer_write.specs.Write.{UnsentPart, toldAll, Written, writeStep}
 use Rattle.writer_write.specs.Places.{strideOf, readersIn, proxiesOf, laidFrom}
-use Rattle.writer_write.specs.Sound.{placesCoherent}
+use Rattle.writer_write.specs.Coherent.{placesCoherent}
 use Rattle.writer_write.specs.InPlace.{writeIncoherent, writeIn, writeOf, Wrote}
 use Rattle.writer_write.specs.Turns.{allCoherentAt, writerOf, putOne, putInAll}
 use Rattle.writer_write.proofs.Tells.{Given, map-same, puts-told}
 
 module _ (f : WriterSendBuffer) (store lens payload : List ℕ) (opted : Bool) where
   -- the writer's part
-  pub admit-unsound : (t : Bool) → t ≡ false → (a : Answer) → a ≡ answerOf (row 1 refl true ∷ []) → (n : SequenceNumber) → n ≡ numberAt 0
+  pub admit-incoherent : (t : Bool) → t ≡ false → (a : Answer) → a ≡ answerOf (row 1 refl true ∷ []) → (n : SequenceNumber) → n ≡ numberAt 0
       → Gives2 (record { numbered = record { answer = a; number = n }; flow = f }) store lens (handed (writerOf t f store lens payload opted))
-  admit-unsound t e a ea n en =
+  admit-incoherent t e a ea n en =
       subst (λ (b : Bool). Gives2 (record { numbered = record { answer = a; number = n }; flow = f }) store lens (handed (writerOf b f store lens payload opted))) (sym e)
       (record { result = λ j. record { numbered = record { answer = ea j; number = en j }; flow = f }; first = refl; second = refl })
 
-  pub admit-sound : (t : Bool) → t ≡ true → (r : Admitted) (s l : List ℕ) → Gives2 r s l (handed (admitOf f store lens payload opted)) → Gives2 r s l (handed (writerOf t f store lens payload opted))
-  admit-sound t e r s l g = subst (λ (b : Bool). Gives2 r s l (handed (writerOf b f store lens payload opted))) (sym e) g
+  pub admit-coherent : (t : Bool) → t ≡ true → (r : Admitted) (s l : List ℕ) → Gives2 r s l (handed (admitOf f store lens payload opted)) → Gives2 r s l (handed (writerOf t f store lens payload opted))
+  admit-coherent t e r s l g = subst (λ (b : Bool). Gives2 r s l (handed (writerOf b f store lens payload opted))) (sym e) g
 
   -- by whether a row holds
   abbrev pub by-rows : Bool → Left3 Numbered WriterSendBuffer (List ℕ) (List ℕ)

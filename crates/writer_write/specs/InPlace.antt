@@ -12,7 +12,7 @@ use Rattle.writer_send_buffer.specs.declared.flow.Numbered.{Numbered}
 use Rattle.writer_send_buffer.specs.Buffer.{numberedNo}
 use Rattle.writer_write.specs.Write.{Written, writeStep}
 use Rattle.writer_write.specs.Places.{strideOf, readersIn, proxiesOf, laidFrom}
-use Rattle.writer_write.specs.Sound.{placesCoherent}
+use Rattle.writer_write.specs.Coherent.{placesCoherent}
 
 -- where they are not coherent it is refused with 1, and nothing changes
 abbrev pub writeIncoherent : WriterSendBuffer → List ℕ → List ℕ → Left3 Numbered WriterSendBuffer (List ℕ) (List ℕ)

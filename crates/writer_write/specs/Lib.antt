@@ -1,7 +1,7 @@
 -- The definitions of `writer_write`.
 pub mod Write
 pub mod Places
-pub mod Sound
+pub mod Coherent
 pub mod InPlace
 pub mod Turns
 pub mod Standing

@@ -14,11 +14,11 @@ use Rattle.rtps_reader_proxy.specs.declared.proxy.ReaderProxy.{ReaderProxy}
 use Rattle.writer_send_buffer.specs.declared.flow.WriterSendBuffer.{WriterSendBuffer}
 use Rattle.writer_send_buffer.specs.declared.flow.Numbered.{Numbered}
 use Rattle.writer_send_buffer.specs.Samples.{admitOf}
-use Rattle.writer_write.specs.declared.sound.SoundReader.{SoundReader}
+use Rattle.writer_write.specs.declared.coherent.SeenReader.{SeenReader}
 use Rattle.writer_write.specs.declared.put.ToldReader.{ToldReader}
 use Rattle.writer_write.specs.Write.{UnsentPart}
 use Rattle.writer_write.specs.Places.{strideOf, ownOf, readerAt, readersIn, proxiesOf, laidFrom}
-use Rattle.writer_write.specs.Sound.{placeCoherent, placesCoherent}
+use Rattle.writer_write.specs.Coherent.{placeCoherent, placesCoherent}
 use Rattle.writer_write.specs.InPlace.{writeIncoherent}
 
 -- the reader at place i of n, in the room u
@@ -26,8 +26,8 @@ abbrev pub atPlace : ReaderProxy → List ℕ → ℕ → ℕ → UnsentPart
 atPlace h u i n = readerAt (strideOf n u) h (drop (i * strideOf n u) u)
 
 -- THE LOOK: at one place, and at all of them
-abbrev pub coherentAt : Bool → ReaderProxy → List ℕ → ℕ → ℕ → Left1 SoundReader (List ℕ)
-coherentAt t h u i n = record { result = record { sound = t && (leb n mostReaders && placeCoherent h (atPlace h u i n .unsent)); proxy = h }; first = u }
+abbrev pub coherentAt : Bool → ReaderProxy → List ℕ → ℕ → ℕ → Left1 SeenReader (List ℕ)
+coherentAt t h u i n = record { result = record { coherent = t && (leb n mostReaders && placeCoherent h (atPlace h u i n .unsent)); proxy = h }; first = u }
 
 abbrev pub allCoherentAt : Bool → List ReaderProxy → List ℕ → Left2 Bool (List ReaderProxy) (List ℕ)
 allCoherentAt t hs u = record { result = t && placesCoherent hs u; first = hs; second = u }

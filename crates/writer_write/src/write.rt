@@ -4,8 +4,8 @@ ghost use Rattle.numbers.specs.Promise.{Gives2};
 ghost use Rattle.writer_send_buffer.specs.Samples.{handed};
 ghost use Rattle.writer_write.specs.InPlace.{Wrote, writeOf};
 ghost use Rattle.writer_write.specs.Turns.{writerOf};
+use crate::coherent::places_coherent;
 use crate::put::put_all;
-use crate::sound::all_sound;
 use numbers::Answer;
 use numbers::SequenceNumber;
 use rtps_reader_proxy::ReaderProxy;
@@ -20,11 +20,11 @@ pub fn admitted(
     lens: &mut [u64],
     payload: &[u8],
     opted: bool,
-    sound: bool,
+    coherent: bool,
 ) -> Admitted
-    ensures { λ r. ⌜ Gives2 r (now (store .exit)) (now (lens .exit)) (handed (writerOf sound flow (now (store .entry)) (now (lens .entry)) (now (payload .entry)) opted)) ⌝ }
+    ensures { λ r. ⌜ Gives2 r (now (store .exit)) (now (lens .exit)) (handed (writerOf coherent flow (now (store .entry)) (now (lens .entry)) (now (payload .entry)) opted)) ⌝ }
 {
-    if !sound {
+    if !coherent {
         let answer = Answer::coherence(false);
         let number = SequenceNumber::from_rank(0);
         return Admitted {
@@ -47,8 +47,8 @@ pub fn write(
 ) -> Numbered
     ensures { λ r. ⌜ Wrote r (now (flow .exit)) (now (store .exit)) (now (lens .exit)) (now (proxies .exit)) (now (unsent .exit)) (writeOf (now (flow .entry)) (now (store .entry)) (now (lens .entry)) (now (payload .entry)) opted (now (proxies .entry)) (now (unsent .entry))) ⌝ }
 {
-    let sound = all_sound(proxies, unsent, true);
-    let m = admitted(*flow, store, lens, payload, opted, sound);
+    let coherent = places_coherent(proxies, unsent, true);
+    let m = admitted(*flow, store, lens, payload, opted, coherent);
     *flow = m.flow;
     put_all(proxies, unsent, m.numbered)
 }

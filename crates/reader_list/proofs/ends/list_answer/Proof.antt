@@ -3,8 +3,8 @@ use borrow.Author.Needs.{needs}
 use Rattle.reader_list.proofs.ends.list_answer.Statement.{statement}
 use Rattle.reader_list.proofs.ends.list_answer.Tie as tie
 
-is-whole-requires : tie.Need-is-whole-requires
-is-whole-requires c κs = search needs
+walk-coherent-requires : tie.Need-walk-coherent-requires
+walk-coherent-requires c κs = search needs
 
 done-requires : tie.Need-done-requires
 done-requires c κs = search needs
@@ -25,13 +25,13 @@ unless-requires-5 : tie.Need-unless-requires-5
 unless-requires-5 c κs = search needs
 
 returns : tie.Need-returns
-returns c = rw (c .unless5 .ensures, c .before .unless4 .ensures, c .before .before .unless3 .ensures, c .before .before .before .unless2 .ensures, c .before .before .before .before .unless .ensures, c .before .before .before .before .before .done .ensures, c .before .before .before .before .before .before .is-whole .ensures)
+returns c = rw (c .unless5 .ensures, c .before .unless4 .ensures, c .before .before .unless3 .ensures, c .before .before .before .unless2 .ensures, c .before .before .before .before .unless .ensures, c .before .before .before .before .before .done .ensures, c .before .before .before .before .before .before .walk-coherent .ensures)
 
 pub list-answer-spec : {M : Type 1} → statement M
 list-answer-spec =
     tie.close
     (tie.spec
-    is-whole-requires
+    walk-coherent-requires
     done-requires
     unless-requires
     unless-requires-2

@@ -14,10 +14,10 @@ use Rattle.requested_fragments.proofs.table.all_hold.Lts as lts
 use Rattle.requested_fragments.proofs.bits.any.Reads as any-reads
 
 abbrev Inv-loop : tie.InvT-loop
-Inv-loop words count good₀ i₀ good i = (i ≤ count) × (64 * count ≤ length words) × (count ≤ 16) × (allHold count words ≡ (good && allHold (count - i) (drop (64 * i) words)))
+Inv-loop words count held₀ i₀ held i = (i ≤ count) × (64 * count ≤ length words) × (count ≤ 16) × (allHold count words ≡ (held && allHold (count - i) (drop (64 * i) words)))
 
 abbrev μ-loop : tie.MeasureT-loop
-μ-loop words count good₀ i₀ good i = count - i
+μ-loop words count held₀ i₀ held i = count - i
 
 loop-holds : tie.Need-loop-holds Inv-loop μ-loop
 loop-holds c = (omega arith, c .before .pre .0, c .before .pre .1, hold-start (c .before .args .words .now) (c .before .args .count))
@@ -53,7 +53,7 @@ loop-again : tie.Need-loop-again Inv-loop μ-loop
 loop-again c =
     let l = c .before .before .before .loop in
     let w = c .before .before .before .before .before .args .words .now in
-    (omega arith, l .inv .1, l .inv .2, hold-more w _ (l .i) (l .good) (c .before .before .loop-test .taken) (l .inv .3) ∙ ap (λ (t : Bool). (l .good && t) && allHold (c .before .before .before .before .before .args .count - (l .i + 1)) (drop (64 * (l .i + 1)) w)) (sym (c .any .ensures)))
+    (omega arith, l .inv .1, l .inv .2, hold-more w _ (l .i) (l .held) (c .before .before .loop-test .taken) (l .inv .3) ∙ ap (λ (t : Bool). (l .held && t) && allHold (c .before .before .before .before .before .args .count - (l .i + 1)) (drop (64 * (l .i + 1)) w)) (sym (c .any .ensures)))
 
 returns : tie.Need-returns Inv-loop μ-loop
 returns c = hold-end _ _ _ _ (c .loop-test .left) (c .before .loop .inv .3)

@@ -12,7 +12,7 @@ use Rattle.requested_fragments.proofs.table.coherent.Reads as reads
 use Rattle.requested_fragments.proofs.table.coherent.Lts as lts
 use Rattle.requested_fragments.proofs.table.all_hold.Reads as all-hold-reads
 use Rattle.rising.proofs.run.all_zero.Reads as all-zero-reads
-use Rattle.rising.proofs.run.run_ok.Reads as run-ok-reads
+use Rattle.rising.proofs.run.run_coherent.Reads as run-coherent-reads
 
 returns : tie.Need-returns
 returns c = check-samples (c .before .before .before .args .count) (c .before .before .before .args .samples .now) (c .before .before .before .args .words .now) (c .if1 .taken)
@@ -23,24 +23,24 @@ mul-if2 c = search needs
 returns-2 : tie.Need-returns-2
 returns-2 c = check-words (c .before .before .before .before .args .count) (c .before .before .before .before .args .samples .now) (c .before .before .before .before .args .words .now) (c .before .if1 .left) (c .if2 .taken)
 
-run-ok-requires : tie.Need-run-ok-requires
-run-ok-requires c κs = search needs
+run-coherent-requires : tie.Need-run-coherent-requires
+run-coherent-requires c κs = search needs
 
 returns-3 : tie.Need-returns-3
 returns-3 c =
     let args = c .before .before .before .before .before .before .args in
     let if1 = c .before .before .before .if1 in
     let if2 = c .before .before .if2 in
-    let run-ok = c .before .run-ok in
-    check-run (args .count) (args .samples .now) (args .words .now) (if1 .left) (if2 .left) (sym (run-ok .ensures) ∙ not-true _ (c .if3 .taken))
+    let run-coherent = c .before .run-coherent in
+    check-run (args .count) (args .samples .now) (args .words .now) (if1 .left) (if2 .left) (sym (run-coherent .ensures) ∙ not-true _ (c .if3 .taken))
 
 mul-a : tie.Need-mul-a
 mul-a c =
     let args = c .before .before .before .before .before .before .args in
     let if1 = c .before .before .before .if1 in
     let if2 = c .before .before .if2 in
-    let run-ok = c .before .run-ok in
-    let h : args .count ≤ length (args .samples .now) = run-few _ (args .samples .now) (args .words .now) (if1 .left) (if2 .left) (sym (run-ok .ensures) ∙ not-false _ (c .if3 .left)) in
+    let run-coherent = c .before .run-coherent in
+    let h : args .count ≤ length (args .samples .now) = run-few _ (args .samples .now) (args .words .now) (if1 .left) (if2 .left) (sym (run-coherent .ensures) ∙ not-false _ (c .if3 .left)) in
     search needs
 
 all-hold-requires : tie.Need-all-hold-requires
@@ -48,8 +48,8 @@ all-hold-requires c κs =
     let args = c .before .before .before .before .before .before .args in
     let if1 = c .before .before .before .if1 in
     let if2 = c .before .before .if2 in
-    let run-ok = c .before .run-ok in
-    let h : args .count ≤ length (args .samples .now) = run-few _ (args .samples .now) (args .words .now) (if1 .left) (if2 .left) (sym (run-ok .ensures) ∙ not-false _ (c .if3 .left)) in
+    let run-coherent = c .before .run-coherent in
+    let h : args .count ≤ length (args .samples .now) = run-few _ (args .samples .now) (args .words .now) (if1 .left) (if2 .left) (sym (run-coherent .ensures) ∙ not-false _ (c .if3 .left)) in
     (omega (arith, h, if2 .left), omega (arith, h, if1 .left))
 
 mul-all-zero : tie.Need-mul-all-zero
@@ -57,9 +57,9 @@ mul-all-zero c =
     let args = c .before .before .before .before .before .before .before .args in
     let if1 = c .before .before .before .before .if1 in
     let if2 = c .before .before .before .if2 in
-    let run-ok = c .before .before .run-ok in
+    let run-coherent = c .before .before .run-coherent in
     let if3 = c .before .if3 in
-    let h : args .count ≤ length (args .samples .now) = run-few _ (args .samples .now) (args .words .now) (if1 .left) (if2 .left) (sym (run-ok .ensures) ∙ not-false _ (if3 .left)) in
+    let h : args .count ≤ length (args .samples .now) = run-few _ (args .samples .now) (args .words .now) (if1 .left) (if2 .left) (sym (run-coherent .ensures) ∙ not-false _ (if3 .left)) in
     search needs
 
 sub-all-zero : tie.Need-sub-all-zero
@@ -67,9 +67,9 @@ sub-all-zero c =
     let args = c .before .before .before .before .before .before .before .args in
     let if1 = c .before .before .before .before .if1 in
     let if2 = c .before .before .before .if2 in
-    let run-ok = c .before .before .run-ok in
+    let run-coherent = c .before .before .run-coherent in
     let if3 = c .before .if3 in
-    let h : args .count ≤ length (args .samples .now) = run-few _ (args .samples .now) (args .words .now) (if1 .left) (if2 .left) (sym (run-ok .ensures) ∙ not-false _ (if3 .left)) in
+    let h : args .count ≤ length (args .samples .now) = run-few _ (args .samples .now) (args .words .now) (if1 .left) (if2 .left) (sym (run-coherent .ensures) ∙ not-false _ (if3 .left)) in
     omega (arith, h, if2 .left)
 
 part-all-zero-start : tie.Need-part-all-zero-start
@@ -77,9 +77,9 @@ part-all-zero-start c =
     let args = c .before .before .before .before .before .before .before .args in
     let if1 = c .before .before .before .before .if1 in
     let if2 = c .before .before .before .if2 in
-    let run-ok = c .before .before .run-ok in
+    let run-coherent = c .before .before .run-coherent in
     let if3 = c .before .if3 in
-    let h : args .count ≤ length (args .samples .now) = run-few _ (args .samples .now) (args .words .now) (if1 .left) (if2 .left) (sym (run-ok .ensures) ∙ not-false _ (if3 .left)) in
+    let h : args .count ≤ length (args .samples .now) = run-few _ (args .samples .now) (args .words .now) (if1 .left) (if2 .left) (sym (run-coherent .ensures) ∙ not-false _ (if3 .left)) in
     omega (arith, h, if2 .left)
 
 part-all-zero-end : tie.Need-part-all-zero-end
@@ -93,10 +93,10 @@ returns-4 c =
     let args = c .before .before .before .before .before .before .before .before .before .args in
     let if1 = c .before .before .before .before .before .before .if1 in
     let if2 = c .before .before .before .before .before .if2 in
-    let run-ok = c .before .before .before .before .run-ok in
+    let run-coherent = c .before .before .before .before .run-coherent in
     let if3 = c .before .before .before .if3 in
     let all-hold = c .before .before .all-hold in
-    check-rest (args .count) (args .samples .now) (args .words .now) (if1 .left) (if2 .left) _ _ (sym (run-ok .ensures) ∙ not-false _ (if3 .left)) (all-hold .ensures) (c .all-zero .ensures)
+    check-rest (args .count) (args .samples .now) (args .words .now) (if1 .left) (if2 .left) _ _ (sym (run-coherent .ensures) ∙ not-false _ (if3 .left)) (all-hold .ensures) (c .all-zero .ensures)
 
 pub coherent-spec : {M : Type 1} → statement M
 coherent-spec =
@@ -105,7 +105,7 @@ coherent-spec =
     returns
     mul-if2
     returns-2
-    run-ok-requires
+    run-coherent-requires
     returns-3
     mul-a
     all-hold-requires

@@ -1,4 +1,4 @@
--- `sintemuno_write` meets its contract, by the law of `LentWith`: `all_sound` looks at the readers, `admitted` decides, `put_all` tells. Assumes nothing.
+-- `sintemuno_write` meets its contract, by the law of `LentWith`: `places_coherent` looks at the readers, `admitted` decides, `put_all` tells. Assumes nothing.
 use Prim.Native.Nat.{ℕ}
 use mathlib.Core.Bool.{Bool}
 use mathlib.Core.List.{List}
@@ -19,8 +19,8 @@ use Rattle.writer_write.specs.InPlace.{Wrote, writeOf}
 use Rattle.writer_write.specs.Turns.{allCoherentAt, putInAll, writerOf}
 use Rattle.writer_steps.proofs.Cells.{proxy}
 use Rattle.writer_write.proofs.Writes.{wrote}
-use Rattle.writer_write.proofs.sound.all_sound.Symbol as look
-use Rattle.writer_write.proofs.sound.all_sound.Met as look-thm
+use Rattle.writer_write.proofs.coherent.places_coherent.Symbol as look
+use Rattle.writer_write.proofs.coherent.places_coherent.Met as look-thm
 use Rattle.writer_write.proofs.write.admitted.Symbol as decide
 use Rattle.writer_write.proofs.write.admitted.Met as decide-thm
 use Rattle.writer_write.proofs.put.put_all.Symbol as put
@@ -48,6 +48,6 @@ sintemuno-write-spec 𝓤 H 𝓜 𝓖 𝓡 =
     entered 𝓤 H (tripleOf 𝓤 H (𝓖 .A) self.signature (self.spec 𝓤 H (𝓖 .A) (𝓜 .mem) (𝓡 .run)))
     (tables 𝓤 H 𝓜 𝓡 code.env .C) (tables 𝓤 H 𝓜 𝓡 code.env .Λ) key.name code.function (code.unfolded 𝓤 H 𝓜 𝓡)
     (lent-with flow (uint w8) (uint w64) (uint w8) boolean proxy (uint w64) numbered admitted-flow looks decides ends ensured wrote 𝓤 H (𝓖 .A) (givenOf 𝓤 H 𝓜 𝓖) look.name decide.name put.name (tablesOf 𝓤 H 𝓜 (tables 𝓤 H 𝓜 𝓡 code.env))
-    (cited 𝓤 H (Looks flow (uint w8) (uint w64) (uint w8) boolean proxy (uint w64) numbered admitted-flow looks decides ends ensured wrote 𝓤 H (𝓖 .A)) 𝓜 𝓡 code.env look.name look.routine code.calls-writer-write·sound·all-sound (look-thm.met 𝓤 H 𝓜 𝓖 𝓡))
+    (cited 𝓤 H (Looks flow (uint w8) (uint w64) (uint w8) boolean proxy (uint w64) numbered admitted-flow looks decides ends ensured wrote 𝓤 H (𝓖 .A)) 𝓜 𝓡 code.env look.name look.routine code.calls-writer-write·coherent·places-coherent (look-thm.met 𝓤 H 𝓜 𝓖 𝓡))
     (cited 𝓤 H (Decides flow (uint w8) (uint w64) (uint w8) boolean proxy (uint w64) numbered admitted-flow looks decides ends ensured wrote 𝓤 H (𝓖 .A)) 𝓜 𝓡 code.env decide.name decide.routine code.calls-writer-write·write·admitted (decide-thm.met 𝓤 H 𝓜 𝓖 𝓡))
     (cited 𝓤 H (Ends flow (uint w8) (uint w64) (uint w8) boolean proxy (uint w64) numbered admitted-flow looks decides ends ensured wrote 𝓤 H (𝓖 .A)) 𝓜 𝓡 code.env put.name put.routine code.calls-writer-write·put·put-all (put-thm.met 𝓤 H 𝓜 𝓖 𝓡)))

@@ -16,15 +16,15 @@ use Rattle.trace_run.proofs.write.written.Statement.{statement}
 use Rattle.trace_run.proofs.write.written.Tie as tie
 use Rattle.trace_run.proofs.write.written.Reads as reads
 use Rattle.trace_run.proofs.write.written.Lts as lts
-use Rattle.trace_run.proofs.write.both_ok.Reads as both-ok-reads
+use Rattle.trace_run.proofs.write.both_coherent.Reads as both-coherent-reads
 use Rattle.trace_readers.proofs.state.Trace.refused.Reads as refused-reads
 use Rattle.trace_run.proofs.write.told_both.Reads as told-both-reads
 use Rattle.trace_readers.proofs.state.Trace.with_flow.Reads as with-flow-reads
 use Rattle.trace_readers.proofs.state.coherence.Reads as coherence-reads
 use Rattle.trace_run.proofs.write.admitted_in.Reads as admitted-in-reads
 
-both-ok-requires : tie.Need-both-ok-requires
-both-ok-requires c κs = search needs
+both-coherent-requires : tie.Need-both-coherent-requires
+both-coherent-requires c κs = search needs
 
 coherence-requires : tie.Need-coherence-requires
 coherence-requires c κs = search needs
@@ -38,10 +38,10 @@ same-length c = search needs
 returns : tie.Need-returns
 returns c =
     let args = c .before .before .before .before .before .before .before .before .before .args in
-    let both-ok = c .before .before .before .before .both-ok in
+    let both-coherent = c .before .before .before .before .both-coherent in
     let coherence = c .before .before .before .coherence in
     let if1 = c .before .if1 in
-    write-refused (args .payload .now) (args .trace) (args .store .now) (args .large .now) (coherence .result) (coherence .ensures ∙ ap ownAnswer (both-ok .ensures)) (if1 .taken) (c .refused .result) (c .refused .ensures)
+    write-refused (args .payload .now) (args .trace) (args .store .now) (args .large .now) (coherence .result) (coherence .ensures ∙ ap ownAnswer (both-coherent .ensures)) (if1 .taken) (c .refused .result) (c .refused .ensures)
 
 admitted-in-requires : tie.Need-admitted-in-requires
 admitted-in-requires c κs = search needs
@@ -58,12 +58,12 @@ same-length-3 c = search needs
 returns-2 : tie.Need-returns-2
 returns-2 c =
     let args = c .before .before .before .before .before .before .before .before .before .before .before .before .before .before .before .before .before .before .before .before .args in
-    let both-ok = c .before .before .before .before .before .before .before .before .before .before .before .before .before .before .before .both-ok in
+    let both-coherent = c .before .before .before .before .before .before .before .before .before .before .before .before .before .before .before .both-coherent in
     let coherence = c .before .before .before .before .before .before .before .before .before .before .before .before .before .before .coherence in
     let if1 = c .before .before .before .before .before .before .before .before .before .before .before .before .if1 in
     let admitted-in = c .before .before .before .before .before .before .before .before .before .admitted-in in
     let if2 = c .before .if2 in
-    admit-refused (args .payload .now) (args .trace) (args .store .now) (args .large .now) (coherence .result) (coherence .ensures ∙ ap ownAnswer (both-ok .ensures)) (if1 .left) (admitted-in .result)
+    admit-refused (args .payload .now) (args .trace) (args .store .now) (args .large .now) (coherence .result) (coherence .ensures ∙ ap ownAnswer (both-coherent .ensures)) (if1 .left) (admitted-in .result)
     (admitted-in .last .1 .1 .0) (admitted-in .last .1 .1 .1 .0) (admitted-in .ensures) (if2 .taken) (c .refused2 .result) (c .refused2 .ensures)
 
 with-flow-requires : tie.Need-with-flow-requires
@@ -84,21 +84,21 @@ same-length-5 c = c .before .before .told-both .kept .1 .0 ∙ c .before .before
 returns-3 : tie.Need-returns-3
 returns-3 c =
     let args = c .before .before .before .before .before .before .before .before .before .before .before .before .before .before .before .before .before .before .before .before .before .before .before .before .before .args in
-    let both-ok = c .before .before .before .before .before .before .before .before .before .before .before .before .before .before .before .before .before .before .before .before .both-ok in
+    let both-coherent = c .before .before .before .before .before .before .before .before .before .before .before .before .before .before .before .before .before .before .before .before .both-coherent in
     let coherence = c .before .before .before .before .before .before .before .before .before .before .before .before .before .before .before .before .before .before .before .coherence in
     let if1 = c .before .before .before .before .before .before .before .before .before .before .before .before .before .before .before .before .before .if1 in
     let admitted-in = c .before .before .before .before .before .before .before .before .before .before .before .before .before .before .admitted-in in
     let if2 = c .before .before .before .before .before .before .if2 in
     let with-flow = c .before .before .before .before .with-flow in
     let told-both = c .before .before .told-both in
-    write-done (args .payload .now) (args .trace) (args .store .now) (args .large .now) (coherence .result) (coherence .ensures ∙ ap ownAnswer (both-ok .ensures)) (if1 .left) (admitted-in .result)
+    write-done (args .payload .now) (args .trace) (args .store .now) (args .large .now) (coherence .result) (coherence .ensures ∙ ap ownAnswer (both-coherent .ensures)) (if1 .left) (admitted-in .result)
     (admitted-in .last .1 .1 .0) (admitted-in .last .1 .1 .1 .0) (admitted-in .ensures) (if2 .left) (with-flow .result) (with-flow .ensures) (told-both .result) (told-both .last .1 .0) (told-both .ensures)
 
 pub written-spec : {M : Type 1} → statement M
 written-spec =
     tie.close
     (tie.spec
-    both-ok-requires
+    both-coherent-requires
     coherence-requires
     refused-requires
     same-length

@@ -3,8 +3,8 @@ use borrow.Author.Needs.{needs}
 use Rattle.rtps_reader_proxy.proofs.proxy.ReaderProxy.check_frags.Statement.{statement}
 use Rattle.rtps_reader_proxy.proofs.proxy.ReaderProxy.check_frags.Tie as tie
 
-frags-ok-requires : tie.Need-frags-ok-requires
-frags-ok-requires c κs = search needs
+frags-coherent-requires : tie.Need-frags-coherent-requires
+frags-coherent-requires c κs = search needs
 
 done-requires : tie.Need-done-requires
 done-requires c κs = search needs
@@ -22,13 +22,13 @@ unless-requires-4 : tie.Need-unless-requires-4
 unless-requires-4 c κs = search needs
 
 returns : tie.Need-returns
-returns c = rw (c .unless4 .ensures, c .before .unless3 .ensures, c .before .before .unless2 .ensures, c .before .before .before .unless .ensures, c .before .before .before .before .done .ensures, c .before .before .before .before .before .frags-ok .ensures)
+returns c = rw (c .unless4 .ensures, c .before .unless3 .ensures, c .before .before .unless2 .ensures, c .before .before .before .unless .ensures, c .before .before .before .before .done .ensures, c .before .before .before .before .before .frags-coherent .ensures)
 
 pub check-frags-spec : {M : Type 1} → statement M
 check-frags-spec =
     tie.close
     (tie.spec
-    frags-ok-requires
+    frags-coherent-requires
     done-requires
     unless-requires
     unless-requires-2

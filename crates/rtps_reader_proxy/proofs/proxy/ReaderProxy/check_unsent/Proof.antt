@@ -3,8 +3,8 @@ use borrow.Author.Needs.{needs}
 use Rattle.rtps_reader_proxy.proofs.proxy.ReaderProxy.check_unsent.Statement.{statement}
 use Rattle.rtps_reader_proxy.proofs.proxy.ReaderProxy.check_unsent.Tie as tie
 
-unsent-ok-requires : tie.Need-unsent-ok-requires
-unsent-ok-requires c κs = search needs
+unsent-coherent-requires : tie.Need-unsent-coherent-requires
+unsent-coherent-requires c κs = search needs
 
 done-requires : tie.Need-done-requires
 done-requires c κs = search needs
@@ -16,8 +16,8 @@ unless-requires-2 : tie.Need-unless-requires-2
 unless-requires-2 c κs = search needs
 
 returns : tie.Need-returns
-returns c = rw (c .unless2 .ensures, c .before .unless .ensures, c .before .before .done .ensures, c .before .before .before .unsent-ok .ensures)
+returns c = rw (c .unless2 .ensures, c .before .unless .ensures, c .before .before .done .ensures, c .before .before .before .unsent-coherent .ensures)
 
 pub check-unsent-spec : {M : Type 1} → statement M
 check-unsent-spec =
-    tie.close (tie.spec unsent-ok-requires done-requires unless-requires unless-requires-2 returns)
+    tie.close (tie.spec unsent-coherent-requires done-requires unless-requires unless-requires-2 returns)

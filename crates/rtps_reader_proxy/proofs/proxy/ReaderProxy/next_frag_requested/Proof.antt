@@ -8,8 +8,8 @@ use Rattle.rtps_reader_proxy.proofs.proxy.ReaderProxy.next_frag_request
 next-requires : tie.Need-next-requires
 next-requires c κs = search needs
 
-frags-ok-requires : tie.Need-frags-ok-requires
-frags-ok-requires c κs = search needs
+frags-coherent-requires : tie.Need-frags-coherent-requires
+frags-coherent-requires c κs = search needs
 
 found-requires : tie.Need-found-requires
 found-requires c κs = search needs
@@ -22,8 +22,8 @@ returns c =
     let args = c .before .before .before .before .before .before .args in
     let next = c .before .before .before .next in
     let found = c .before .found in
-    let frags-ok = c .before .before .frags-ok in
-    c .next-piece .ensures ∙ rw (found .ensures, frags-ok .ensures) (next-piece (args .at) (args .self) (args .samples .now) (args .words .now) (next .result) (next .ensures))
+    let frags-coherent = c .before .before .frags-coherent in
+    c .next-piece .ensures ∙ rw (found .ensures, frags-coherent .ensures) (next-piece (args .at) (args .self) (args .samples .now) (args .words .now) (next .result) (next .ensures))
 
 pub next-frag-requested-spec : {M : Type 1} → statement M
-next-frag-requested-spec = tie.close (tie.spec next-requires frags-ok-requires found-requires next-piece-requires returns)
+next-frag-requested-spec = tie.close (tie.spec next-requires frags-coherent-requires found-requires next-piece-requires returns)

@@ -3,8 +3,8 @@ use borrow.Author.Needs.{needs}
 use Rattle.rtps_reader_proxy.proofs.proxy.ReaderProxy.next_is.Statement.{statement}
 use Rattle.rtps_reader_proxy.proofs.proxy.ReaderProxy.next_is.Tie as tie
 
-unsent-ok-requires : tie.Need-unsent-ok-requires
-unsent-ok-requires c κs = search needs
+unsent-coherent-requires : tie.Need-unsent-coherent-requires
+unsent-coherent-requires c κs = search needs
 
 found-requires : tie.Need-found-requires
 found-requires c κs = search needs
@@ -13,7 +13,7 @@ of-requires : tie.Need-of-requires
 of-requires c κs = search needs
 
 returns : tie.Need-returns
-returns c = rw (c .of .ensures, c .before .found .ensures, c .before .before .unsent-ok .ensures)
+returns c = rw (c .of .ensures, c .before .found .ensures, c .before .before .unsent-coherent .ensures)
 
 pub next-is-spec : {M : Type 1} → statement M
-next-is-spec = tie.close (tie.spec unsent-ok-requires found-requires of-requires returns)
+next-is-spec = tie.close (tie.spec unsent-coherent-requires found-requires of-requires returns)

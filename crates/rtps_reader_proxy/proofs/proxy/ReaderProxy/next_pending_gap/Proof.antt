@@ -28,8 +28,8 @@ first-from-requires c κs = search needs
 first-gap-requires : tie.Need-first-gap-requires
 first-gap-requires c κs = search needs
 
-gaps-ok-requires : tie.Need-gaps-ok-requires
-gaps-ok-requires c κs = search needs
+gaps-coherent-requires : tie.Need-gaps-coherent-requires
+gaps-coherent-requires c κs = search needs
 
 found-requires : tie.Need-found-requires
 found-requires c κs = search needs
@@ -47,8 +47,8 @@ returns c =
     let first-from = c .before .before .before .before .first-from in
     let first-gap = c .before .before .before .first-gap in
     let found = c .before .found in
-    let gaps-ok = c .before .before .gaps-ok in
-    rw (c .of .ensures, found .ensures, gaps-ok .ensures)
+    let gaps-coherent = c .before .before .gaps-coherent in
+    rw (c .of .ensures, found .ensures, gaps-coherent .ensures)
     (next-gap (args .at) (args .self) (args .gaps .now) (larger2 .result) (first-from .result) (first-gap .result)
     (larger2 .ensures ∙ ap (max (args .at .from)) (larger .ensures ∙ ap (max 1) (rank .ensures .is))) (first-from .ensures) (first-gap .ensures ∙ rw (rank2 .ensures .is)))
 
@@ -62,7 +62,7 @@ next-pending-gap-spec =
     rank-requires-2
     first-from-requires
     first-gap-requires
-    gaps-ok-requires
+    gaps-coherent-requires
     found-requires
     of-requires
     returns)

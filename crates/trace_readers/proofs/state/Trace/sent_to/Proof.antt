@@ -16,7 +16,7 @@ use Rattle.trace_readers.proofs.state.Trace.sent_to.Tie as tie
 use Rattle.trace_readers.proofs.state.Trace.sent_to.Reads as reads
 use Rattle.trace_readers.proofs.state.Trace.sent_to.Lts as lts
 use Rattle.rtps_reader_proxy.proofs.proxy.ReaderProxy.mark_change_sent.Reads as mark-change-sent-reads
-use Rattle.rtps_reader_proxy.proofs.proxy.ReaderProxy.unsent_ok.Reads as unsent-ok-reads
+use Rattle.rtps_reader_proxy.proofs.proxy.ReaderProxy.unsent_coherent.Reads as unsent-coherent-reads
 use Rattle.trace_readers.proofs.state.Trace.reader.Reads as reader-reads
 use Rattle.trace_readers.proofs.state.Trace.refused.Reads as refused-reads
 use Rattle.trace_readers.proofs.state.Trace.with_flow.Reads as with-flow-reads
@@ -28,8 +28,8 @@ use Rattle.numbers.proofs.answers.earlier.Reads as earlier-reads
 reader-requires : tie.Need-reader-requires
 reader-requires c κs = search needs
 
-unsent-ok-requires : tie.Need-unsent-ok-requires
-unsent-ok-requires c κs = search needs
+unsent-coherent-requires : tie.Need-unsent-coherent-requires
+unsent-coherent-requires c κs = search needs
 
 coherence-requires : tie.Need-coherence-requires
 coherence-requires c κs = search needs
@@ -53,14 +53,14 @@ returns : tie.Need-returns
 returns c =
     let args = c .before .before .before .before .before .before .before .before .before .before .before .before .before .args in
     let reader = c .before .before .before .before .before .before .before .before .before .before .before .reader in
-    let unsent-ok = c .before .before .before .before .before .before .before .before .before .unsent-ok in
+    let unsent-coherent = c .before .before .before .before .before .before .before .before .before .unsent-coherent in
     let coherence = c .before .before .before .before .before .before .before .before .coherence in
     let with-sent-frontier = c .before .before .before .before .before .before .with-sent-frontier in
     let earlier = c .before .before .before .before .earlier in
     let earlier2 = c .before .before .before .earlier2 in
     let if1 = c .before .if1 in
     sent-refused (args .first) (args .looked) (args .n) (args .self) (args .unsent .now) (earlier2 .result)
-    (sent-asked (args .first) (args .looked) (args .n) (args .self) (args .unsent .now) (reader .result) (reader .ensures) (unsent-ok .result) (unsent-ok .ensures) (coherence .result) (coherence .ensures)
+    (sent-asked (args .first) (args .looked) (args .n) (args .self) (args .unsent .now) (reader .result) (reader .ensures) (unsent-coherent .result) (unsent-coherent .ensures) (coherence .result) (coherence .ensures)
     (with-sent-frontier .result) (with-sent-frontier .ensures) (earlier .result) (earlier .ensures) (earlier2 .result) (earlier2 .ensures)) (if1 .taken) (c .refused .result) (c .refused .ensures)
 
 mark-change-sent-requires : tie.Need-mark-change-sent-requires
@@ -82,7 +82,7 @@ returns-2 : tie.Need-returns-2
 returns-2 c =
     let args = c .before .before .before .before .before .before .before .before .before .before .before .before .before .before .before .before .before .before .before .before .args in
     let reader = c .before .before .before .before .before .before .before .before .before .before .before .before .before .before .before .before .before .before .reader in
-    let unsent-ok = c .before .before .before .before .before .before .before .before .before .before .before .before .before .before .before .before .unsent-ok in
+    let unsent-coherent = c .before .before .before .before .before .before .before .before .before .before .before .before .before .before .before .before .unsent-coherent in
     let coherence = c .before .before .before .before .before .before .before .before .before .before .before .before .before .before .before .coherence in
     let with-sent-frontier = c .before .before .before .before .before .before .before .before .before .before .before .before .before .with-sent-frontier in
     let earlier = c .before .before .before .before .before .before .before .before .before .before .before .earlier in
@@ -91,7 +91,7 @@ returns-2 c =
     let mark-change-sent = c .before .before .before .before .before .before .mark-change-sent in
     let with-flow = c .before .before .with-flow in
     sent-done (args .first) (args .looked) (args .n) (args .self) (args .unsent .now) (earlier2 .result)
-    (sent-asked (args .first) (args .looked) (args .n) (args .self) (args .unsent .now) (reader .result) (reader .ensures) (unsent-ok .result) (unsent-ok .ensures) (coherence .result) (coherence .ensures)
+    (sent-asked (args .first) (args .looked) (args .n) (args .self) (args .unsent .now) (reader .result) (reader .ensures) (unsent-coherent .result) (unsent-coherent .ensures) (coherence .result) (coherence .ensures)
     (with-sent-frontier .result) (with-sent-frontier .ensures) (earlier .result) (earlier .ensures) (earlier2 .result) (earlier2 .ensures)) (if1 .left) (reader .result) (reader .ensures) (mark-change-sent .result)
     (mark-change-sent .last .1 .0) (mark-change-sent .ensures) (with-sent-frontier .result) (with-sent-frontier .ensures) (with-flow .result) (with-flow .ensures) (c .before .with-reader .result) (c .before .with-reader .ensures) (c .done .result) (c .done .ensures)
 
@@ -100,7 +100,7 @@ sent-to-spec =
     tie.close
     (tie.spec
     reader-requires
-    unsent-ok-requires
+    unsent-coherent-requires
     coherence-requires
     with-sent-frontier-requires
     earlier-requires

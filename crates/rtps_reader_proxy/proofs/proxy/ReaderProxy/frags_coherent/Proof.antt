@@ -1,4 +1,4 @@
--- `frags_ok` meets its contract. Assumes nothing.
+-- `frags_coherent` meets its contract. Assumes nothing.
 use Prim.Native.Nat.{ℕ, _≤_, _<_, _+_, _-_, max}
 use mathlib.Core.Path.{_≡_, refl, sym, ap, _∙_}
 use mathlib.Core.List.{List, [], _∷_}
@@ -15,17 +15,17 @@ use Rattle.number_sets.specs.Bits.{members}
 use Rattle.rtps_reader_proxy.specs.Reader.{fragsRequested, fragSent}
 use Rattle.rtps_reader_proxy.specs.Fragments.{fragsCoherent, cannotAsk, noSlot}
 use borrow.Author.Needs.{needs}
-use Rattle.rtps_reader_proxy.proofs.proxy.ReaderProxy.frags_ok.Statement.{statement}
-use Rattle.rtps_reader_proxy.proofs.proxy.ReaderProxy.frags_ok.Tie as tie
+use Rattle.rtps_reader_proxy.proofs.proxy.ReaderProxy.frags_coherent.Statement.{statement}
+use Rattle.rtps_reader_proxy.proofs.proxy.ReaderProxy.frags_coherent.Tie as tie
 
-head-ok-requires : tie.Need-head-ok-requires
-head-ok-requires c κs = search needs
+is-coherent-requires : tie.Need-is-coherent-requires
+is-coherent-requires c κs = search needs
 
 coherent-requires : tie.Need-coherent-requires
 coherent-requires c κs = search needs
 
 returns : tie.Need-returns
-returns c = rw (c .before .head-ok .ensures, c .coherent .ensures)
+returns c = rw (c .before .is-coherent .ensures, c .coherent .ensures)
 
-pub frags-ok-spec : {M : Type 1} → statement M
-frags-ok-spec = tie.close (tie.spec head-ok-requires coherent-requires returns)
+pub frags-coherent-spec : {M : Type 1} → statement M
+frags-coherent-spec = tie.close (tie.spec is-coherent-requires coherent-requires returns)

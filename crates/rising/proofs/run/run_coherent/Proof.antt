@@ -1,11 +1,11 @@
--- `run_ok` meets its contract. Assumes nothing.
+-- `run_coherent` meets its contract. Assumes nothing.
 use Rattle.rising.proofs.Scans.{run-short, run-not, run-whole}
 use mathlib.Core.Path.{sym}
 use lib.Seq.{length-take-le}
 use borrow.Author.Tests.{not-true, not-false}
 use borrow.Author.Needs.{needs}
-use Rattle.rising.proofs.run.run_ok.Statement.{statement}
-use Rattle.rising.proofs.run.run_ok.Tie as tie
+use Rattle.rising.proofs.run.run_coherent.Statement.{statement}
+use Rattle.rising.proofs.run.run_coherent.Tie as tie
 
 returns : tie.Need-returns
 returns c = search (needs, run-short)
@@ -43,8 +43,8 @@ returns-3 c =
     let rises = c .before .before .before .rises in
     run-whole (args .above) (args .count) (args .s .now) (rises .result) (c .before .before .before .before .before .if1 .left) (rises .ensures) (not-false (rises .result) (c .before .before .if2 .left)) (c .all-zero .result) (c .all-zero .ensures)
 
-pub run-ok-spec : {M : Type 1} → statement M
-run-ok-spec =
+pub run-coherent-spec : {M : Type 1} → statement M
+run-coherent-spec =
     tie.close
     (tie.spec
     returns
