@@ -1,4 +1,4 @@
-//! Records as they are lent over a boundary: a head of plain numbers and rooms
+//! Records as they are lent over a boundary: a proxy of plain numbers and rooms
 //! of words, which may hold anything. `view` reads a coherent one, `form`
 //! writes it back with all unused room zero.
 

@@ -1,4 +1,4 @@
-//! The model's records as the library is lent them, heads and rooms, and back.
+//! The model's records as the library is lent them, proxies and rooms, and back.
 
 use model::{
     raw::{RawReader, RawStore},
@@ -25,10 +25,10 @@ pub fn fragment_set(set: &FragmentSet) -> FragmentNumberSet {
     }
 }
 
-/// A reader's head and rooms.
+/// A reader's proxy and rooms.
 #[derive(Clone, PartialEq, Eq, Debug)]
 pub struct LentReader {
-    pub head: ReaderProxy,
+    pub proxy: ReaderProxy,
     pub unsent: Vec<u64>,
     pub gaps: Vec<u64>,
     pub samples: Vec<u64>,
@@ -39,7 +39,7 @@ impl LentReader {
     pub fn form(reader: &Reader) -> Self {
         let raw = RawReader::form(reader);
         LentReader {
-            head: ReaderProxy {
+            proxy: ReaderProxy {
                 all_acked_before: SequenceNumber(raw.acked),
                 unsent_cap: raw.cap as usize,
                 unsent_count: raw.unsent_count as usize,
@@ -57,12 +57,12 @@ impl LentReader {
     /// `None` if it isn't coherent.
     pub fn view(&self) -> Option<Reader> {
         let raw = RawReader {
-            acked: self.head.all_acked_before.0,
-            cap: self.head.unsent_cap as u64,
-            prefix_end: self.head.gap_prefix_end.0,
-            unsent_count: self.head.unsent_count as u64,
-            gap_count: self.head.gap_count as u64,
-            frag_count: self.head.frag_count as u64,
+            acked: self.proxy.all_acked_before.0,
+            cap: self.proxy.unsent_cap as u64,
+            prefix_end: self.proxy.gap_prefix_end.0,
+            unsent_count: self.proxy.unsent_count as u64,
+            gap_count: self.proxy.gap_count as u64,
+            frag_count: self.proxy.frag_count as u64,
             unsent: self.unsent.clone(),
             gaps: self.gaps.clone(),
             samples: self.samples.clone(),

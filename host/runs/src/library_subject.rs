@@ -39,7 +39,7 @@ impl Subjects for Library {
             return Err(made.answer.number as u8);
         }
         let mut lent = LentReader::form(&Reader::new(1).expect("an allowed cap"));
-        lent.head = made.proxy;
+        lent.proxy = made.proxy;
         lent.unsent = vec![0; cap];
         Ok(lent.record())
     }
@@ -62,47 +62,47 @@ fn answered(answer: ffi::Answer) -> Reply {
 
 impl ReaderSubject for LentReader {
     fn call(&mut self, call: &ReaderCall) -> Reply {
-        let (head, unsent, gaps) = (self.head, &mut self.unsent, &mut self.gaps);
+        let (proxy, unsent, gaps) = (self.proxy, &mut self.unsent, &mut self.gaps);
         let (samples, words) = (&mut self.samples, &mut self.words);
         let changed = match call {
             ReaderCall::Ack { set, last } => {
                 let set = forms::number_set(set);
                 let last = SequenceNumber(*last);
-                let taken = ffi::reader_handle_ack_nack(head, unsent, gaps, set, last);
-                self.head = taken.proxy;
+                let taken = ffi::reader_handle_ack_nack(proxy, unsent, gaps, set, last);
+                self.proxy = taken.proxy;
                 return Reply {
                     left_out: taken.left_out as u64,
                     ..answered(taken.answer)
                 };
             }
             ReaderCall::Notify { number } => {
-                ffi::reader_notify_new_cache_change(head, unsent, SequenceNumber(*number))
+                ffi::reader_notify_new_cache_change(proxy, unsent, SequenceNumber(*number))
             }
             ReaderCall::MarkSent { number } => {
-                ffi::reader_mark_change_sent(head, unsent, SequenceNumber(*number))
+                ffi::reader_mark_change_sent(proxy, unsent, SequenceNumber(*number))
             }
             ReaderCall::RemoveBefore { number } => {
                 let before = SequenceNumber(*number);
-                ffi::reader_remove_from_unsent_set_all_before(head, unsent, before)
+                ffi::reader_remove_from_unsent_set_all_before(proxy, unsent, before)
             }
             ReaderCall::Gap { number, last } => {
                 let (number, last) = (SequenceNumber(*number), SequenceNumber(*last));
-                ffi::reader_insert_pending_gap(head, gaps, number, last)
+                ffi::reader_insert_pending_gap(proxy, gaps, number, last)
             }
             ReaderCall::GapUpTo { end, last } => {
                 let (end, last) = (SequenceNumber(*end), SequenceNumber(*last));
-                ffi::reader_set_pending_gap_up_to(head, gaps, end, last)
+                ffi::reader_set_pending_gap_up_to(proxy, gaps, end, last)
             }
             ReaderCall::Request { sample, set } => {
                 let (sample, set) = (SequenceNumber(*sample), forms::fragment_set(set));
-                ffi::reader_mark_frags_requested(head, samples, words, sample, set)
+                ffi::reader_mark_frags_requested(proxy, samples, words, sample, set)
             }
             ReaderCall::FragSent { sample, fragment } => {
                 let (sample, fragment) = (SequenceNumber(*sample), FragmentNumber(*fragment));
-                ffi::reader_mark_frag_sent(head, samples, words, sample, fragment)
+                ffi::reader_mark_frag_sent(proxy, samples, words, sample, fragment)
             }
         };
-        self.head = changed.proxy;
+        self.proxy = changed.proxy;
         answered(changed.answer)
     }
 
@@ -116,7 +116,7 @@ impl ReaderSubject for LentReader {
 
     fn next_unsent(&self, from: i64) -> Option<i64> {
         next(ffi::reader_next_unsent_change(
-            self.head,
+            self.proxy,
             &self.unsent,
             cursor(from),
         ))
@@ -124,7 +124,7 @@ impl ReaderSubject for LentReader {
 
     fn next_pending_gap(&self, from: i64) -> Option<i64> {
         next(ffi::reader_next_pending_gap(
-            self.head,
+            self.proxy,
             &self.gaps,
             cursor(from),
         ))
@@ -132,13 +132,13 @@ impl ReaderSubject for LentReader {
 
     fn next_fragment(&self, from: u32) -> Option<(i64, u32)> {
         let from = FragmentCursor { from: from.into() };
-        let next = ffi::reader_next_frag_requested(self.head, &self.samples, &self.words, from);
+        let next = ffi::reader_next_frag_requested(self.proxy, &self.samples, &self.words, from);
         let found = (next.sample.0, next.fragment.0);
         some(next.answer, found)
     }
 
     fn any_requested(&self) -> bool {
-        ffi::reader_repair_frags_requested(self.head, &self.samples, &self.words).yes
+        ffi::reader_repair_frags_requested(self.proxy, &self.samples, &self.words).yes
     }
 }
 

@@ -1,4 +1,4 @@
-//! Every entry point of the library against the model: on heads, rooms, lengths
+//! Every entry point of the library against the model: on proxies, rooms, lengths
 //! and numbers that may hold anything. Compared are the whole answer and the
 //! whole later content of everything lent, refusals included.
 //!

@@ -70,13 +70,13 @@ fn admitted(
         return admitted;
     }
     // Once more, on copies, for what is said of the readers.
-    let (mut heads, mut room) = (proxies.to_vec(), unsent.to_vec());
+    let (mut copies, mut room) = (proxies.to_vec(), unsent.to_vec());
     let (mut copy, mut bytes, mut lens) = (*flow, bytes.to_vec(), lens.to_vec());
     let again = Store {
         bytes: &mut bytes,
         lens: &mut lens,
     };
-    let told = Sound.write(&mut copy, again, payload, opted, &mut heads, &mut room);
+    let told = Sound.write(&mut copy, again, payload, opted, &mut copies, &mut room);
     match told.answer.number {
         1 => told,
         _ => admitted,
@@ -188,7 +188,7 @@ impl Steps for FaultySteps {
         proxies: &mut [ReaderProxy],
         unsent: Room,
     ) -> Numbered {
-        let free = |head: &ReaderProxy| *head == ReaderProxy::default();
+        let free = |proxy: &ReaderProxy| *proxy == ReaderProxy::default();
         let incoherent = Numbered {
             answer: Answer { number: 1, place: 0 },
             number: SequenceNumber(0),
@@ -198,8 +198,8 @@ impl Steps for FaultySteps {
                 let was = (proxies.last().copied(), unsent.to_vec());
                 let stretch = unsent.len() / proxies.len().max(1);
                 let got = Sound.write(flow, store, payload, opted, proxies, unsent);
-                if let (Some(last), Some(head)) = (proxies.last_mut(), was.0) {
-                    *last = head;
+                if let (Some(last), Some(proxy)) = (proxies.last_mut(), was.0) {
+                    *last = proxy;
                     let start = stretch * (proxies.len() - 1);
                     unsent[start..].copy_from_slice(&was.1[start..]);
                 }

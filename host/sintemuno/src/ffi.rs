@@ -1,4 +1,4 @@
-//! The proved library's entry points, on heads and rooms that may hold
+//! The proved library's entry points, on proxies and rooms that may hold
 //! anything, as safe functions. All of the crate's unsafe code is here.
 //!
 //! Why they are safe: an entry takes any numbers and any lengths, reads and

@@ -16,7 +16,7 @@ use crate::{
 /// own that checks what is held.
 #[derive(Clone, Copy, PartialEq, Eq)]
 pub struct ReaderView<'a> {
-    head: ReaderProxy,
+    proxy: ReaderProxy,
     unsent: &'a [u64],
     gaps: &'a [u64],
     samples: &'a [u64],
@@ -32,14 +32,14 @@ fn held(room: &[u64], numbers: usize) -> &[u64] {
 impl<'a> ReaderView<'a> {
     /// The rooms are given whole; each question lends what is held in its own.
     pub(crate) fn new(
-        head: ReaderProxy,
+        proxy: ReaderProxy,
         unsent: &'a [u64],
         gaps: &'a [u64],
         samples: &'a [u64],
         words: &'a [u64],
     ) -> Self {
         ReaderView {
-            head,
+            proxy,
             unsent,
             gaps,
             samples,
@@ -48,16 +48,16 @@ impl<'a> ReaderView<'a> {
     }
 
     fn unsent(self) -> &'a [u64] {
-        held(self.unsent, self.head.unsent_count)
+        held(self.unsent, self.proxy.unsent_count)
     }
 
     fn gaps(self) -> &'a [u64] {
-        held(self.gaps, self.head.gap_count)
+        held(self.gaps, self.proxy.gap_count)
     }
 
     /// The samples with requested fragments, and their words.
     fn frags(self) -> (&'a [u64], &'a [u64]) {
-        let samples = self.head.frag_count;
+        let samples = self.proxy.frag_count;
         (
             held(self.samples, samples),
             held(self.words, samples * WORDS_PER_SAMPLE),
@@ -66,17 +66,17 @@ impl<'a> ReaderView<'a> {
 
     /// The reader has acknowledged all numbers before this one.
     pub fn acked_up_to_before(self) -> SequenceNumber {
-        self.head.all_acked_before
+        self.proxy.all_acked_before
     }
 
     /// How many numbers are unsent.
     pub fn unsent_changes_count(self) -> usize {
-        self.head.unsent_count
+        self.proxy.unsent_count
     }
 
     /// The smallest unsent number.
     pub fn first_unsent_change(self) -> Option<SequenceNumber> {
-        let first = ffi::reader_first_unsent_change(self.head, self.unsent());
+        let first = ffi::reader_first_unsent_change(self.proxy, self.unsent());
         given(first.answer, first.number).ok()
     }
 
@@ -84,7 +84,7 @@ impl<'a> ReaderView<'a> {
     pub fn unsent_changes_iter(self) -> impl Iterator<Item = SequenceNumber> + 'a {
         let mut at = Cursor::default();
         iter::from_fn(move || {
-            let next = ffi::reader_next_unsent_change(self.head, self.unsent(), at);
+            let next = ffi::reader_next_unsent_change(self.proxy, self.unsent(), at);
             at = next.cursor;
             given(next.answer, next.number).ok()
         })
@@ -96,7 +96,7 @@ impl<'a> ReaderView<'a> {
     pub fn get_pending_gap(self) -> impl Iterator<Item = SequenceNumber> + 'a {
         let mut at = Cursor::default();
         iter::from_fn(move || {
-            let next = ffi::reader_next_pending_gap(self.head, self.gaps(), at);
+            let next = ffi::reader_next_pending_gap(self.proxy, self.gaps(), at);
             at = next.cursor;
             given(next.answer, next.number).ok()
         })
@@ -110,7 +110,7 @@ impl<'a> ReaderView<'a> {
         let mut at = FragmentCursor::default();
         iter::from_fn(move || {
             let (samples, words) = self.frags();
-            let next = ffi::reader_next_frag_requested(self.head, samples, words, at);
+            let next = ffi::reader_next_frag_requested(self.proxy, samples, words, at);
             at = next.cursor;
             given(next.answer, (next.sample, next.fragment)).ok()
         })
@@ -120,17 +120,17 @@ impl<'a> ReaderView<'a> {
     /// Whether any fragment is asked for.
     pub fn repair_frags_requested(self) -> bool {
         let (samples, words) = self.frags();
-        ffi::reader_repair_frags_requested(self.head, samples, words).yes
+        ffi::reader_repair_frags_requested(self.proxy, samples, words).yes
     }
 }
 
 impl fmt::Debug for ReaderView<'_> {
     fn fmt(&self, f: &mut fmt::Formatter<'_>) -> fmt::Result {
         f.debug_struct("ReaderView")
-            .field("all_acked_before", &self.head.all_acked_before.0)
-            .field("unsent_cap", &self.head.unsent_cap)
+            .field("all_acked_before", &self.proxy.all_acked_before.0)
+            .field("unsent_cap", &self.proxy.unsent_cap)
             .field("unsent", &self.unsent())
-            .field("gap_prefix_end", &self.head.gap_prefix_end.0)
+            .field("gap_prefix_end", &self.proxy.gap_prefix_end.0)
             .field("gaps", &self.gaps())
             .field("frag_samples", &self.frags().0)
             .finish()

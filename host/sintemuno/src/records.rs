@@ -14,11 +14,11 @@ const GAPS: usize = RtpsReaderProxy::GAPS;
 const SAMPLES: usize = RtpsReaderProxy::FRAG_SAMPLES;
 const WORDS: usize = SAMPLES * WORDS_PER_SAMPLE;
 
-/// A place for each slot of the reader list: a head, and a stretch of each
+/// A place for each slot of the reader list: a proxy, and a stretch of each
 /// room. Where no reader is, all is zero.
 #[derive(Clone, PartialEq, Eq)]
 pub(crate) struct Records {
-    heads: Box<[ReaderProxy]>,
+    proxies: Box<[ReaderProxy]>,
     unsent: Box<[u64]>,
     gaps: Box<[u64]>,
     samples: Box<[u64]>,
@@ -37,7 +37,7 @@ impl Records {
     pub fn new(places: usize, cap: usize) -> Result<Self> {
         let nobody = RtpsReaderProxy::new(cap)?;
         Ok(Records {
-            heads: vec![ReaderProxy::default(); places].into_boxed_slice(),
+            proxies: vec![ReaderProxy::default(); places].into_boxed_slice(),
             unsent: zeros(places * cap),
             gaps: zeros(places * GAPS),
             samples: zeros(places * SAMPLES),
@@ -48,12 +48,12 @@ impl Records {
 
     /// The readers' cap.
     pub fn cap(&self) -> usize {
-        self.nobody.head().unsent_cap
+        self.nobody.proxy().unsent_cap
     }
 
     /// A reader comes to the place: its record is new.
     pub fn begin(&mut self, place: usize) {
-        self.heads[place] = self.nobody.head();
+        self.proxies[place] = self.nobody.proxy();
     }
 
     /// The reader goes.
@@ -69,7 +69,7 @@ impl Records {
             None => return self.nobody.record(),
         };
         Record {
-            head: &mut self.heads[place],
+            proxy: &mut self.proxies[place],
             unsent: &mut self.unsent[stretch(place, cap)],
             gaps: &mut self.gaps[stretch(place, GAPS)],
             samples: &mut self.samples[stretch(place, SAMPLES)],
@@ -80,7 +80,7 @@ impl Records {
     /// The record at the place, to be asked.
     pub fn view(&self, place: usize) -> ReaderView<'_> {
         ReaderView::new(
-            self.heads[place],
+            self.proxies[place],
             &self.unsent[stretch(place, self.cap())],
             &self.gaps[stretch(place, GAPS)],
             &self.samples[stretch(place, SAMPLES)],
@@ -88,17 +88,17 @@ impl Records {
         )
     }
 
-    /// All heads and the unsent room of all.
+    /// All proxies and the unsent room of all.
     pub fn side_by_side(&mut self) -> (&mut [ReaderProxy], &mut [u64]) {
-        (&mut self.heads, &mut self.unsent)
+        (&mut self.proxies, &mut self.unsent)
     }
 }
 
 /// The readers that are there.
 impl fmt::Debug for Records {
     fn fmt(&self, f: &mut fmt::Formatter<'_>) -> fmt::Result {
-        let there = |place: &usize| self.heads[*place] != ReaderProxy::default();
-        let places = (0..self.heads.len()).filter(there);
+        let there = |place: &usize| self.proxies[*place] != ReaderProxy::default();
+        let places = (0..self.proxies.len()).filter(there);
         f.debug_list()
             .entries(places.map(|p| self.view(p)))
             .finish()

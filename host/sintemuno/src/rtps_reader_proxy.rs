@@ -18,7 +18,7 @@ use crate::{
 /// the proved calls alone, which keep them coherent.
 #[derive(Clone, PartialEq, Eq)]
 pub struct RtpsReaderProxy {
-    head: ReaderProxy,
+    proxy: ReaderProxy,
     unsent: Box<[u64]>,
     gaps: Box<[u64]>,
     samples: Box<[u64]>,
@@ -42,9 +42,9 @@ impl RtpsReaderProxy {
     /// unsent numbers are kept, 1 to 1,024.
     pub fn new(cap: usize) -> Result<Self> {
         let made = ffi::reader_new(cap);
-        let head = given(made.answer, made.proxy)?;
+        let proxy = given(made.answer, made.proxy)?;
         Ok(RtpsReaderProxy {
-            head,
+            proxy,
             unsent: zeros(cap),
             gaps: zeros(Self::GAPS),
             samples: zeros(Self::FRAG_SAMPLES),
@@ -54,14 +54,14 @@ impl RtpsReaderProxy {
 
     /// As new, in the same rooms.
     pub fn clear(&mut self) {
-        let made = ffi::reader_new(self.head.unsent_cap);
+        let made = ffi::reader_new(self.proxy.unsent_cap);
         self.record().clear(made.proxy);
     }
 
     /// The record, to be asked: all questions below are those of the view.
     pub fn view(&self) -> ReaderView<'_> {
         ReaderView::new(
-            self.head,
+            self.proxy,
             &self.unsent,
             &self.gaps,
             &self.samples,
@@ -69,14 +69,14 @@ impl RtpsReaderProxy {
         )
     }
 
-    pub(crate) fn head(&self) -> ReaderProxy {
-        self.head
+    pub(crate) fn proxy(&self) -> ReaderProxy {
+        self.proxy
     }
 
     /// The record, to be changed.
     pub(crate) fn record(&mut self) -> Record<'_> {
         Record {
-            head: &mut self.head,
+            proxy: &mut self.proxy,
             unsent: &mut self.unsent,
             gaps: &mut self.gaps,
             samples: &mut self.samples,
@@ -112,8 +112,8 @@ impl RtpsReaderProxy {
     /// go.
     pub fn notify_new_cache_change(&mut self, number: SequenceNumber) -> Result<()> {
         let mut record = self.record();
-        let (head, unsent) = (*record.head, record.unsent(1));
-        let changed = ffi::reader_notify_new_cache_change(head, unsent, number);
+        let (proxy, unsent) = (*record.proxy, record.unsent(1));
+        let changed = ffi::reader_notify_new_cache_change(proxy, unsent, number);
         record.keep(changed)
     }
 
@@ -125,8 +125,8 @@ impl RtpsReaderProxy {
     /// All numbers below this one are unsent no longer. Any number is taken.
     pub fn remove_from_unsent_set_all_before(&mut self, before: SequenceNumber) -> Result<()> {
         let mut record = self.record();
-        let (head, unsent) = (*record.head, record.unsent(0));
-        let changed = ffi::reader_remove_from_unsent_set_all_before(head, unsent, before);
+        let (proxy, unsent) = (*record.proxy, record.unsent(0));
+        let changed = ffi::reader_remove_from_unsent_set_all_before(proxy, unsent, before);
         record.keep(changed)
     }
 
@@ -145,8 +145,8 @@ impl RtpsReaderProxy {
     /// ```
     pub fn take_unsent<'a>(&mut self, out: &'a mut [u64]) -> Result<&'a [u64]> {
         let mut record = self.record();
-        let taken = ffi::reader_take_unsent(*record.head, record.unsent(0), out);
-        self.head = taken.proxy;
+        let taken = ffi::reader_take_unsent(*record.proxy, record.unsent(0), out);
+        self.proxy = taken.proxy;
         given(taken.answer, &out[..taken.count])
     }
 
@@ -173,11 +173,11 @@ impl RtpsReaderProxy {
         reader_sn_state: &SequenceNumberSet,
         last_available: SequenceNumber,
     ) -> Result<usize> {
-        let (head, set) = (self.head, *reader_sn_state);
+        let (proxy, set) = (self.proxy, *reader_sn_state);
         let mut record = self.record();
         let (unsent, gaps) = record.for_ack_nack(&set);
-        let taken = ffi::reader_handle_ack_nack(head, unsent, gaps, set, last_available);
-        self.head = taken.proxy;
+        let taken = ffi::reader_handle_ack_nack(proxy, unsent, gaps, set, last_available);
+        self.proxy = taken.proxy;
         given(taken.answer, taken.left_out)
     }
 }
@@ -191,8 +191,8 @@ impl RtpsReaderProxy {
         last: SequenceNumber,
     ) -> Result<()> {
         let mut record = self.record();
-        let (head, gaps) = (*record.head, record.gaps(1));
-        let changed = ffi::reader_insert_pending_gap(head, gaps, number, last);
+        let (proxy, gaps) = (*record.proxy, record.gaps(1));
+        let changed = ffi::reader_insert_pending_gap(proxy, gaps, number, last);
         record.keep(changed)
     }
 
@@ -203,8 +203,8 @@ impl RtpsReaderProxy {
         last: SequenceNumber,
     ) -> Result<()> {
         let mut record = self.record();
-        let (head, gaps) = (*record.head, record.gaps(0));
-        let changed = ffi::reader_set_pending_gap_up_to(head, gaps, end, last);
+        let (proxy, gaps) = (*record.proxy, record.gaps(0));
+        let changed = ffi::reader_set_pending_gap_up_to(proxy, gaps, end, last);
         record.keep(changed)
     }
 
@@ -223,10 +223,10 @@ impl RtpsReaderProxy {
         number: SequenceNumber,
         frag_nums: &FragmentNumberSet,
     ) -> Result<()> {
-        let head = self.head;
+        let proxy = self.proxy;
         let mut record = self.record();
         let (samples, words) = record.frags(1);
-        let changed = ffi::reader_mark_frags_requested(head, samples, words, number, *frag_nums);
+        let changed = ffi::reader_mark_frags_requested(proxy, samples, words, number, *frag_nums);
         record.keep(changed)
     }
 

@@ -123,8 +123,8 @@ impl Writer {
     /// A sample is written, and every reader told.
     pub fn write(&mut self, opted_in: bool, payload: &[u8]) -> Result<SequenceNumber> {
         let WriterSendBuffer { flow, store, lens } = &mut self.buffer;
-        let (heads, unsent) = self.records.side_by_side();
-        let written = ffi::write(flow, store, lens, payload, opted_in, heads, unsent);
+        let (proxies, unsent) = self.records.side_by_side();
+        let written = ffi::write(flow, store, lens, payload, opted_in, proxies, unsent);
         given(written.answer, written.number)
     }
 
@@ -134,8 +134,8 @@ impl Writer {
     pub fn send_first(&mut self, id: u64) -> Result<Sent<'_>> {
         let place = self.known(id)?;
         let mut record = self.records.record(Some(place));
-        let sent = ffi::send_first(self.buffer.flow, *record.head, record.unsent(0));
-        *record.head = sent.proxy;
+        let sent = ffi::send_first(self.buffer.flow, *record.proxy, record.unsent(0));
+        *record.proxy = sent.proxy;
         let number = given(sent.answer, sent.number)?;
         Ok(match self.buffer.get_by_sn(number) {
             Some(bytes) if sent.data => Sent::Data(number, bytes),
@@ -176,13 +176,13 @@ impl Writer {
             *flow,
             store.len(),
             lens,
-            *record.head,
+            *record.proxy,
             record.unsent(0),
             &mut self.sent.numbers[..most],
             &mut self.sent.starts[..most],
             &mut self.sent.lengths[..most],
         );
-        *record.head = sent.proxy;
+        *record.proxy = sent.proxy;
         let count = given(sent.answer, sent.count)?;
         Ok(self.sent.first(count, store))
     }
@@ -238,10 +238,10 @@ impl Writer {
         let place = self.place(id);
         let (list, flow) = (&mut self.list.slots, &mut self.buffer.flow);
         let mut record = self.records.record(place);
-        let (head, set) = (*record.head, *reader_sn_state);
+        let (proxy, set) = (*record.proxy, *reader_sn_state);
         let (unsent, gaps) = record.for_ack_nack(&set);
-        let taken = ffi::take_ack_nack(list, flow, head, unsent, gaps, id, set);
-        *record.head = taken.proxy;
+        let taken = ffi::take_ack_nack(list, flow, proxy, unsent, gaps, id, set);
+        *record.proxy = taken.proxy;
         let wake = given(taken.told.answer, taken.told.yes)?;
         let left_out = taken.left_out;
         Ok(Acknowledged { left_out, wake })
@@ -256,9 +256,9 @@ impl Writer {
     ) -> Result<()> {
         let place = self.place(id);
         let mut record = self.records.record(place);
-        let (head, list) = (*record.head, &self.list.slots);
+        let (proxy, list) = (*record.proxy, &self.list.slots);
         let (samples, words) = record.frags(1);
-        let changed = ffi::take_nack_frag(list, head, samples, words, id, number, *frag_nums);
+        let changed = ffi::take_nack_frag(list, proxy, samples, words, id, number, *frag_nums);
         record.keep(changed)
     }
 }

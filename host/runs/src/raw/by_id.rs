@@ -65,7 +65,7 @@ fn drawn(prng: &mut Prng, near: Near) -> (u64, Lent) {
     let mut own = 1;
     if !there.is_empty() {
         let head = &mut slots[prng.pick(&there)];
-        head.acked = reader.head.all_acked_before;
+        head.acked = reader.proxy.all_acked_before;
         own = head.id;
     }
     let flow = forms::flow(&draw_any::send_buffer(prng, near).flow);
@@ -182,19 +182,19 @@ fn acknowledges(
     if answer.number == 0 {
         after.flow = forms::flow(&flow);
         let place = list::place_of(&lent.slots, id).expect("there");
-        after.slots[place].acked = record.head.all_acked_before;
+        after.slots[place].acked = record.proxy.all_acked_before;
         after.reader = record;
     }
     let expected = AckTold {
         told: Told { answer, yes },
         left_out: left_out as usize,
-        proxy: after.reader.head,
+        proxy: after.reader.proxy,
     };
-    let head = lent.reader.head;
+    let proxy = lent.reader.proxy;
     let rooms = (&mut lent.reader.unsent[..], &mut lent.reader.gaps[..]);
     let asked = forms::number_set(&set);
-    let got = steps.take_ack_nack(&mut lent.slots, &mut lent.flow, head, rooms, id, asked);
-    lent.reader.head = got.proxy;
+    let got = steps.take_ack_nack(&mut lent.slots, &mut lent.flow, proxy, rooms, id, asked);
+    lent.reader.proxy = got.proxy;
     count(tally, "take_ack_nack", got.told.answer);
     same(&("take_ack_nack", id, set), got, expected)?;
     same(&("take_ack_nack", id, set), &*lent, &after)
@@ -218,13 +218,13 @@ fn requests(
     after.reader = record;
     let expected = Changed {
         answer,
-        proxy: after.reader.head,
+        proxy: after.reader.proxy,
     };
-    let head = lent.reader.head;
+    let proxy = lent.reader.proxy;
     let rooms = (&mut lent.reader.samples[..], &mut lent.reader.words[..]);
     let (n, asked) = (SequenceNumber(sample), forms::fragment_set(&set));
-    let got = steps.take_nack_frag(&lent.slots, head, rooms, id, n, asked);
-    lent.reader.head = got.proxy;
+    let got = steps.take_nack_frag(&lent.slots, proxy, rooms, id, n, asked);
+    lent.reader.proxy = got.proxy;
     count(tally, "take_nack_frag", got.answer);
     same(&("take_nack_frag", id, sample, set), got, expected)?;
     same(&("take_nack_frag", id, sample, set), &*lent, &after)

@@ -66,14 +66,14 @@ fn sends(
     let mut rooms = drawn(prng);
     let before = (lent.clone(), rooms.clone());
     let (expected, after, out) = sent(from, room, &before.0, &before.1);
-    let head = lent.head;
+    let proxy = lent.proxy;
     let lends = Out {
         numbers: &mut rooms.numbers,
         starts: &mut rooms.starts,
         lengths: &mut rooms.lengths,
     };
-    let got = steps.send_many(from.flow, (room, &from.lens), head, &mut lent.unsent, lends);
-    lent.head = got.proxy;
+    let got = steps.send_many(from.flow, (room, &from.lens), proxy, &mut lent.unsent, lends);
+    lent.proxy = got.proxy;
     count(tally, "send_many", got.answer);
     let name = ("send_many", from.flow, room, before);
     same(&name, got, expected)?;
@@ -116,7 +116,7 @@ fn sent(
     let expected = SentMany {
         answer,
         count: sent.len(),
-        proxy: after.head,
+        proxy: after.proxy,
     };
     (expected, after, out)
 }

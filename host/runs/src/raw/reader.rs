@@ -17,7 +17,7 @@ use crate::{
 
 const WORDS_PER_SAMPLE: usize = 64;
 
-/// Which rooms a call is lent. It tests the head whole and these alone.
+/// Which rooms a call is lent. It tests the proxy whole and these alone.
 #[derive(Clone, Copy, PartialEq, Eq)]
 pub struct Lends {
     pub unsent: bool,
@@ -56,11 +56,11 @@ pub fn joining(lends: Lends, joins: usize) -> Lends {
 /// The record as far as it is lent, all else empty; `None` if that isn't
 /// coherent.
 pub fn view(lent: &LentReader, lends: Lends) -> Option<Reader> {
-    let head = &lent.head;
-    let counts_fit = head.unsent_count <= head.unsent_cap
-        && head.gap_count <= 256
-        && head.frag_count <= 16
-        && head.unsent_cap <= 1024;
+    let proxy = &lent.proxy;
+    let counts_fit = proxy.unsent_count <= proxy.unsent_cap
+        && proxy.gap_count <= 256
+        && proxy.frag_count <= 16
+        && proxy.unsent_cap <= 1024;
     if !counts_fit {
         return None;
     }
@@ -70,29 +70,29 @@ pub fn view(lent: &LentReader, lends: Lends) -> Option<Reader> {
         false => (0, lends.joins),
     };
     if !lends.unsent {
-        part.head.unsent_count = 0;
-        part.unsent = vec![0; head.unsent_cap];
+        part.proxy.unsent_count = 0;
+        part.unsent = vec![0; proxy.unsent_cap];
     } else if !whole(
         &mut part.unsent,
-        head.unsent_count,
-        head.unsent_cap,
+        proxy.unsent_count,
+        proxy.unsent_cap,
         unsent_joins,
     ) {
         return None;
     }
     if !lends.gaps {
-        part.head.gap_count = 0;
+        part.proxy.gap_count = 0;
         part.gaps = vec![0; 256];
-    } else if !whole(&mut part.gaps, head.gap_count, 256, gap_joins) {
+    } else if !whole(&mut part.gaps, proxy.gap_count, 256, gap_joins) {
         return None;
     }
     if !lends.frags {
-        part.head.frag_count = 0;
+        part.proxy.frag_count = 0;
         part.samples = vec![0; 16];
         part.words = vec![0; 1024];
     } else {
         let all_words = part.words.len() == WORDS_PER_SAMPLE * part.samples.len();
-        if !all_words || !whole(&mut part.samples, head.frag_count, 16, lends.joins) {
+        if !all_words || !whole(&mut part.samples, proxy.frag_count, 16, lends.joins) {
             return None;
         }
         part.words.resize(1024, 0);
@@ -112,20 +112,20 @@ fn whole(room: &mut Vec<u64>, count: usize, most: usize, more: usize) -> bool {
 pub fn form(before: &LentReader, lends: Lends, reader: &Reader) -> LentReader {
     let made = LentReader::form(reader);
     let mut after = before.clone();
-    after.head.all_acked_before = made.head.all_acked_before;
-    after.head.gap_prefix_end = made.head.gap_prefix_end;
+    after.proxy.all_acked_before = made.proxy.all_acked_before;
+    after.proxy.gap_prefix_end = made.proxy.gap_prefix_end;
     if lends.unsent {
-        after.head.unsent_count = made.head.unsent_count;
+        after.proxy.unsent_count = made.proxy.unsent_count;
         after.unsent = made.unsent;
         after.unsent.truncate(before.unsent.len());
     }
     if lends.gaps {
-        after.head.gap_count = made.head.gap_count;
+        after.proxy.gap_count = made.proxy.gap_count;
         after.gaps = made.gaps;
         after.gaps.truncate(before.gaps.len());
     }
     if lends.frags {
-        after.head.frag_count = made.head.frag_count;
+        after.proxy.frag_count = made.proxy.frag_count;
         after.samples = made.samples;
         after.samples.truncate(before.samples.len());
         after.words = made.words;
@@ -181,15 +181,15 @@ pub fn world(prng: &mut Prng, tally: &mut Tally) -> Result<(), String> {
 /// The rooms from their start: what is held, and some places more, or none.
 pub fn lend_in_part(prng: &mut Prng, lent: &mut LentReader) {
     let mut some = |held: usize, more: u64| held + prng.below(more) as usize;
-    lent.unsent.truncate(some(lent.head.unsent_count, 5));
-    lent.gaps.truncate(some(lent.head.gap_count, 5));
-    lent.samples.truncate(some(lent.head.frag_count, 3));
+    lent.unsent.truncate(some(lent.proxy.unsent_count, 5));
+    lent.gaps.truncate(some(lent.proxy.gap_count, 5));
+    lent.samples.truncate(some(lent.proxy.frag_count, 3));
     lent.words.truncate(WORDS_PER_SAMPLE * lent.samples.len());
 }
 
 /// What was not lent is as it was: zeros.
 pub fn make_whole(lent: &mut LentReader) {
-    lent.unsent.resize(lent.head.unsent_cap, 0);
+    lent.unsent.resize(lent.proxy.unsent_cap, 0);
     lent.gaps.resize(256, 0);
     lent.samples.resize(16, 0);
     lent.words.resize(1024, 0);
@@ -201,14 +201,14 @@ pub fn damage(prng: &mut Prng, near: Near, lent: &mut LentReader) {
             true => near.number(prng) as u64,
             false => word(prng),
         };
-        let head = &mut lent.head;
+        let proxy = &mut lent.proxy;
         match prng.below(10) {
-            0 => head.all_acked_before = SequenceNumber(any(prng) as i64),
-            1 => head.unsent_cap = any_count(prng, head.unsent_cap),
-            2 => head.unsent_count = any_count(prng, head.unsent_count),
-            3 => head.gap_prefix_end = SequenceNumber(any(prng) as i64),
-            4 => head.gap_count = any_count(prng, head.gap_count),
-            5 => head.frag_count = any_count(prng, head.frag_count),
+            0 => proxy.all_acked_before = SequenceNumber(any(prng) as i64),
+            1 => proxy.unsent_cap = any_count(prng, proxy.unsent_cap),
+            2 => proxy.unsent_count = any_count(prng, proxy.unsent_count),
+            3 => proxy.gap_prefix_end = SequenceNumber(any(prng) as i64),
+            4 => proxy.gap_count = any_count(prng, proxy.gap_count),
+            5 => proxy.frag_count = any_count(prng, proxy.frag_count),
             6 => damage_room(prng, &mut lent.unsent, any),
             7 => damage_room(prng, &mut lent.gaps, any),
             8 => damage_room(prng, &mut lent.samples, any),
@@ -225,7 +225,7 @@ fn any_count(prng: &mut Prng, count: usize) -> usize {
     }
 }
 
-/// The calls that leave a changed head, drawn as for coherent records.
+/// The calls that leave a changed proxy, drawn as for coherent records.
 fn changes(
     prng: &mut Prng,
     near: Near,
@@ -238,39 +238,39 @@ fn changes(
         ReaderCall::Ack { .. } => return acknowledges(&call, tally, lent),
         ReaderCall::Notify { number } => (
             "reader_notify_new_cache_change",
-            ffi::reader_notify_new_cache_change(lent.head, &mut lent.unsent, sn(*number)),
+            ffi::reader_notify_new_cache_change(lent.proxy, &mut lent.unsent, sn(*number)),
             judged(&before, joining(UNSENT, 1), |r| {
                 r.notify_new_cache_change(*number)
             }),
         ),
         ReaderCall::MarkSent { number } => (
             "reader_mark_change_sent",
-            ffi::reader_mark_change_sent(lent.head, &mut lent.unsent, sn(*number)),
+            ffi::reader_mark_change_sent(lent.proxy, &mut lent.unsent, sn(*number)),
             judged(&before, UNSENT, |r| r.mark_change_sent(*number)),
         ),
         ReaderCall::RemoveBefore { number } => (
             "reader_remove_from_unsent_set_all_before",
-            ffi::reader_remove_from_unsent_set_all_before(lent.head, &mut lent.unsent, sn(*number)),
+            ffi::reader_remove_from_unsent_set_all_before(lent.proxy, &mut lent.unsent, sn(*number)),
             judged(&before, UNSENT, |r| {
                 r.remove_from_unsent_set_all_before(*number)
             }),
         ),
         ReaderCall::Gap { number, last } => (
             "reader_insert_pending_gap",
-            ffi::reader_insert_pending_gap(lent.head, &mut lent.gaps, sn(*number), sn(*last)),
+            ffi::reader_insert_pending_gap(lent.proxy, &mut lent.gaps, sn(*number), sn(*last)),
             judged(&before, joining(GAPS, 1), |r| {
                 r.insert_pending_gap(*number, *last)
             }),
         ),
         ReaderCall::GapUpTo { end, last } => (
             "reader_set_pending_gap_up_to",
-            ffi::reader_set_pending_gap_up_to(lent.head, &mut lent.gaps, sn(*end), sn(*last)),
+            ffi::reader_set_pending_gap_up_to(lent.proxy, &mut lent.gaps, sn(*end), sn(*last)),
             judged(&before, GAPS, |r| r.set_pending_gap_up_to(*end, *last)),
         ),
         ReaderCall::Request { sample, set } => (
             "reader_mark_frags_requested",
             ffi::reader_mark_frags_requested(
-                lent.head,
+                lent.proxy,
                 &mut lent.samples,
                 &mut lent.words,
                 sn(*sample),
@@ -283,7 +283,7 @@ fn changes(
         ReaderCall::FragSent { sample, fragment } => (
             "reader_mark_frag_sent",
             ffi::reader_mark_frag_sent(
-                lent.head,
+                lent.proxy,
                 &mut lent.samples,
                 &mut lent.words,
                 sn(*sample),
@@ -293,9 +293,9 @@ fn changes(
         ),
     };
     count(tally, name, got.answer);
-    lent.head = got.proxy;
+    lent.proxy = got.proxy;
     let (answer, (), after) = expected;
-    let proxy = after.head;
+    let proxy = after.proxy;
     same(&(name, &call), got, Changed { answer, proxy })?;
     same(&(name, &call), &*lent, &after)
 }
@@ -312,16 +312,16 @@ fn acknowledges(call: &ReaderCall, tally: &mut Tally, lent: &mut LentReader) -> 
     let before = lent.clone();
     let (unsent, gaps) = (&mut lent.unsent, &mut lent.gaps);
     let got =
-        ffi::reader_handle_ack_nack(lent.head, unsent, gaps, forms::number_set(set), sn(last));
+        ffi::reader_handle_ack_nack(lent.proxy, unsent, gaps, forms::number_set(set), sn(last));
     count(tally, "reader_handle_ack_nack", got.answer);
-    lent.head = got.proxy;
+    lent.proxy = got.proxy;
     let asked = set.count.min(256) as usize;
     let lends = joining(UNSENT_AND_GAPS, asked);
     let (answer, left_out, after) = judged(&before, lends, |r| r.handle_ack_nack(set, last));
     let expected = AckNacked {
         answer,
         left_out: left_out as usize,
-        proxy: after.head,
+        proxy: after.proxy,
     };
     same(call, got, expected)?;
     same(call, &*lent, &after)
@@ -333,9 +333,9 @@ fn takes(prng: &mut Prng, tally: &mut Tally, lent: &mut LentReader) -> Result<()
     let length = prng.pick(&[0, 1, 2, 3, 8, 2000]);
     let mut out: Vec<u64> = (0..length).map(|_| prng.next()).collect();
     let mut expected_out = out.clone();
-    let got = ffi::reader_take_unsent(lent.head, &mut lent.unsent, &mut out);
+    let got = ffi::reader_take_unsent(lent.proxy, &mut lent.unsent, &mut out);
     count(tally, "reader_take_unsent", got.answer);
-    lent.head = got.proxy;
+    lent.proxy = got.proxy;
     let (answer, taken, after) = judged(&before, UNSENT, |r| {
         let taken: Vec<i64> = r.unsent.iter().copied().take(length).collect();
         for number in &taken {
@@ -349,7 +349,7 @@ fn takes(prng: &mut Prng, tally: &mut Tally, lent: &mut LentReader) -> Result<()
     let expected = Taken {
         answer,
         count: taken.len(),
-        proxy: after.head,
+        proxy: after.proxy,
     };
     same(&("take_unsent", length), got, expected)?;
     same(&("take_unsent", length), &*lent, &after)?;
@@ -395,12 +395,12 @@ fn next_numbers(
         })
     };
     let (answer, number, _) = unsent(Some(0));
-    let got = ffi::reader_first_unsent_change(lent.head, &lent.unsent);
+    let got = ffi::reader_first_unsent_change(lent.proxy, &lent.unsent);
     count(tally, "reader_first_unsent_change", got.answer);
     same(&"first_unsent_change", got, next_number(answer, number))?;
 
     let (answer, number, _) = unsent(from);
-    let got = ffi::reader_next_unsent_change(lent.head, &lent.unsent, at);
+    let got = ffi::reader_next_unsent_change(lent.proxy, &lent.unsent, at);
     count(tally, "reader_next_unsent_change", got.answer);
     let name = ("next_unsent_change", at);
     same(&name, got, next_number(answer, number))?;
@@ -408,7 +408,7 @@ fn next_numbers(
     let (answer, number, _) = judged(lent, GAPS, |r| {
         from.map_or(nothing, |from| r.next_pending_gap(from))
     });
-    let got = ffi::reader_next_pending_gap(lent.head, &lent.gaps, at);
+    let got = ffi::reader_next_pending_gap(lent.proxy, &lent.gaps, at);
     count(tally, "reader_next_pending_gap", got.answer);
     let name = ("next_pending_gap", at);
     same(&name, got, next_number(answer, number))
@@ -435,7 +435,7 @@ fn fragment_questions(prng: &mut Prng, tally: &mut Tally, lent: &LentReader) -> 
         cursor: FragmentCursor { from: next },
     };
     let got = ffi::reader_next_frag_requested(
-        lent.head,
+        lent.proxy,
         &lent.samples,
         &lent.words,
         FragmentCursor { from },
@@ -444,7 +444,7 @@ fn fragment_questions(prng: &mut Prng, tally: &mut Tally, lent: &LentReader) -> 
     same(&("next_frag_requested", from), got, expected)?;
 
     let (answer, yes, _) = judged(lent, FRAGS, |r| r.any_requested());
-    let got = ffi::reader_repair_frags_requested(lent.head, &lent.samples, &lent.words);
+    let got = ffi::reader_repair_frags_requested(lent.proxy, &lent.samples, &lent.words);
     count(tally, "reader_repair_frags_requested", got.answer);
     same(&"repair_frags_requested", got, Told { answer, yes })
 }
@@ -456,7 +456,7 @@ fn creation(prng: &mut Prng, tally: &mut Tally) -> Result<(), String> {
     let expected = match Reader::new(cap) {
         Ok(reader) => Changed {
             answer: ffi::Answer::default(),
-            proxy: LentReader::form(&reader).head,
+            proxy: LentReader::form(&reader).proxy,
         },
         Err(refusal) => Changed {
             answer: super::number(refusal),

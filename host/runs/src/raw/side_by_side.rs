@@ -1,4 +1,4 @@
-//! A write that tells every reader: the readers' heads side by side, and their
+//! A write that tells every reader: the readers' proxies side by side, and their
 //! unsent rooms in stretches of one room.
 
 use model::{steps as judge, Reader, Refusal};
@@ -47,15 +47,15 @@ fn drawn(prng: &mut Prng, near: Near) -> Lent {
             false => Some(LentReader::form(&draw_any::reader(prng, near))),
         })
         .collect();
-    let heads = records.iter().flatten().map(|r| &r.head);
+    let proxies = records.iter().flatten().map(|r| &r.proxy);
     let (needs, caps): (Vec<usize>, Vec<usize>) =
-        heads.map(|h| (h.unsent_count + 1, h.unsent_cap)).unzip();
+        proxies.map(|p| (p.unsent_count + 1, p.unsent_cap)).unzip();
     let most = |of: Vec<usize>| of.into_iter().max().unwrap_or(0);
     let (need, cap) = (most(needs), most(caps));
     let stretch = prng.pick(&[need, need, need + 1, need.max(1) - 1, cap]);
     let mut unsent = Vec::new();
     for record in &records {
-        let held = record.as_ref().map_or(0, |r| r.head.unsent_count);
+        let held = record.as_ref().map_or(0, |r| r.proxy.unsent_count);
         let mut room = record.as_ref().map_or(Vec::new(), |r| r.unsent.clone());
         room.resize(stretch, 0);
         if prng.one_in(3) {
@@ -72,22 +72,22 @@ fn drawn(prng: &mut Prng, near: Near) -> Lent {
 }
 
 fn head_of(record: &Option<LentReader>) -> ReaderProxy {
-    record.as_ref().map_or(ReaderProxy::default(), |r| r.head)
+    record.as_ref().map_or(ReaderProxy::default(), |r| r.proxy)
 }
 
 fn damage(prng: &mut Prng, near: Near, lent: &mut Lent) {
     let place = prng.below(lent.proxies.len().max(1) as u64) as usize;
     match (prng.below(4), lent.proxies.get_mut(place)) {
-        (0..=1, Some(head)) => {
+        (0..=1, Some(proxy)) => {
             let mut record = LentReader {
-                head: *head,
+                proxy: *proxy,
                 unsent: Vec::new(),
                 gaps: Vec::new(),
                 samples: Vec::new(),
                 words: Vec::new(),
             };
             reader::damage(prng, near, &mut record);
-            *head = record.head;
+            *proxy = record.proxy;
         }
         (2, _) => damage_room(prng, &mut lent.unsent, word),
         _ => writer::damage(prng, near, &mut lent.writer),
@@ -95,9 +95,9 @@ fn damage(prng: &mut Prng, near: Near, lent: &mut Lent) {
 }
 
 /// So much of a stretch is looked at.
-fn own(head: &ReaderProxy, stretch: usize) -> usize {
-    let most = head.unsent_cap.min(stretch);
-    most.min(head.unsent_count.saturating_add(1))
+fn own(proxy: &ReaderProxy, stretch: usize) -> usize {
+    let most = proxy.unsent_cap.min(stretch);
+    most.min(proxy.unsent_count.saturating_add(1))
 }
 
 /// The reader at each place with the part of the room that is its own; `None`
@@ -108,14 +108,14 @@ fn views(lent: &Lent) -> Result<Vec<Option<(LentReader, Reader)>>, Refusal> {
         return Err(Refusal::Incoherent);
     }
     let stretch = lent.unsent.len() / places.max(1);
-    let view = |(place, head): (usize, &ReaderProxy)| {
-        if *head == ReaderProxy::default() {
+    let view = |(place, proxy): (usize, &ReaderProxy)| {
+        if *proxy == ReaderProxy::default() {
             return Ok(None);
         }
         let start = place * stretch;
         let record = LentReader {
-            head: *head,
-            unsent: lent.unsent[start..start + own(head, stretch)].to_vec(),
+            proxy: *proxy,
+            unsent: lent.unsent[start..start + own(proxy, stretch)].to_vec(),
             gaps: Vec::new(),
             samples: Vec::new(),
             words: Vec::new(),
@@ -152,7 +152,7 @@ fn written(before: &Lent, opted: bool, payload: &[u8]) -> (ffi::Answer, i64, Len
             let made = reader::form(&was, reader::UNSENT, &record);
             let start = place * stretch;
             after.unsent[start..start + made.unsent.len()].copy_from_slice(&made.unsent);
-            after.proxies[place] = made.head;
+            after.proxies[place] = made.proxy;
         }
     }
     (answer, number, after)

@@ -273,19 +273,19 @@ fn sends(
         reader::damage(prng, near, &mut lent);
     }
     let before = lent.clone();
-    let got = ffi::send_first(*flow, lent.head, &mut lent.unsent);
+    let got = ffi::send_first(*flow, lent.proxy, &mut lent.unsent);
     count(tally, "send_first", got.answer);
-    lent.head = got.proxy;
+    lent.proxy = got.proxy;
     let (expected, after) = sent(&forms::flow_view(flow), &before);
-    same(&("send_first", flow, &before.head), got, expected)?;
-    same(&("send_first", flow, &before.head), lent, after)
+    same(&("send_first", flow, &before.proxy), got, expected)?;
+    same(&("send_first", flow, &before.proxy), lent, after)
 }
 
 fn sent(flow: &Flow, before: &LentReader) -> (Sent, LentReader) {
     let refused = |answer| {
         let sent = Sent {
             answer,
-            proxy: before.head,
+            proxy: before.proxy,
             ..Sent::default()
         };
         (sent, before.clone())
@@ -304,7 +304,7 @@ fn sent(flow: &Flow, before: &LentReader) -> (Sent, LentReader) {
         answer: ffi::Answer::default(),
         number: SequenceNumber(first),
         data: (flow.first..=flow.last).contains(&first),
-        proxy: after.head,
+        proxy: after.proxy,
     };
     (sent, after)
 }

@@ -60,7 +60,7 @@ pub struct FragmentNumberSet {
     pub words: [u32; 8],
 }
 
-/// A reader's head; its rooms are lent beside it.
+/// A reader's proxy; its rooms are lent beside it.
 #[repr(C)]
 #[derive(Clone, Copy, Debug, PartialEq, Eq, Default)]
 pub struct ReaderProxy {
