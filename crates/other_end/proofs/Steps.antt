@@ -31,7 +31,7 @@ use Rattle.rtps_reader_proxy.specs.Record.{room_for, unsent_coherent, gaps_coher
 use Rattle.rtps_reader_proxy.specs.Unsent.{by_unsent, unsent_by, notified_of}
 use Rattle.rtps_reader_proxy.specs.Gaps.{by_gaps, gaps_by, member_rows, end_rows}
 use Rattle.rtps_reader_proxy.specs.Fragments.{frags_requested_of, frags_coherent, by_frags, frags_by, request_rows}
-use Rattle.rtps_reader_proxy.specs.Acks.{byBoth, proxy_after, ack_fits, ack_rows_of, ack_nacked_among}
+use Rattle.rtps_reader_proxy.specs.Acks.{by_both, proxy_after, ack_fits, ack_rows_of, ack_nacked_among}
 use Rattle.reader_record.specs.Whole.{rooms_whole, rooms_coherent, record_form, Valid}
 use Rattle.reader_record.proofs.Whole.{entries_in_lem, form_coherent}
 use Rattle.reader_list.specs.declared.calls.Found.{Found}
@@ -131,7 +131,7 @@ module _ (r : Reader) (v : Valid r) where
   by_frags_lem = λ i.
       with_acked (acked-is i) (with_unsent (take (length r.unsent) []) (with_gaps (prefix-is i) (take (length r.gaps) []) (with_frags (rooms_hold_lem 16 r.frags (entries_in_lem r v) v.frags-few i) r)))
 
-  by_both : byBoth (proxy_of r) (unsent_room r) (gap_room r) ≡ seen_both r
+  by_both : by_both (proxy_of r) (unsent_room r) (gap_room r) ≡ seen_both r
   by_both = λ i. with_acked (acked-is i) (with_unsent (room_take r.cap r.unsent i) (with_gaps (prefix-is i) (room_take 256 r.gaps i) (with_frags [] r)))
 
   -- THE UNSENT NUMBERS
@@ -246,7 +246,7 @@ module _ (r : Reader) (v : Valid r) where
         (and_both (unsent_coherent (proxy_of r) (unsent_room r)) (gaps_coherent (proxy_of r) (gap_room r)) unsent-coherent gaps-coherent) in
         let out = ack_out beside after (length (unsent_room r)) (length (gap_room r)) in
         let no : (negative (number_at z.base) || not (in_range (number_at last) top_number)) ≡ false = ap (λ (t : Bool). t || not (in_range (number_at last) top_number)) (at_least_0 z.base) ∙ ap not within in
-        ap (λ (b : ℕ). out (fits && (unsent_coherent (proxy_of r) (unsent_room r) && gaps_coherent (proxy_of r) (gap_room r))) (negative (number_at z.base) || not (in_range (number_at last) top_number)) (rank_of (number_at last)) (record { base = b; count = z.count; words = z.words }) (byBoth (proxy_of r) (unsent_room r) (gap_room r))) (rank_back z.base (omega (arith, top)))
+        ap (λ (b : ℕ). out (fits && (unsent_coherent (proxy_of r) (unsent_room r) && gaps_coherent (proxy_of r) (gap_room r))) (negative (number_at z.base) || not (in_range (number_at last) top_number)) (rank_of (number_at last)) (record { base = b; count = z.count; words = z.words }) (by_both (proxy_of r) (unsent_room r) (gap_room r))) (rank_back z.base (omega (arith, top)))
         ∙ ap (λ (x : Reader). out (fits && (unsent_coherent (proxy_of r) (unsent_room r) && gaps_coherent (proxy_of r) (gap_room r))) (negative (number_at z.base) || not (in_range (number_at last) top_number)) (rank_of (number_at last)) z x) by_both
         ∙ ap (λ (k : ℕ). out (fits && (unsent_coherent (proxy_of r) (unsent_room r) && gaps_coherent (proxy_of r) (gap_room r))) (negative (number_at z.base) || not (in_range (number_at last) top_number)) k z (seen_both r)) last-is
         ∙ ap (λ (t : Bool). out t (negative (number_at z.base) || not (in_range (number_at last) top_number)) last z (seen_both r)) ok

@@ -263,7 +263,7 @@ module _ (p : Picture) (c : record_coherent p ≡ true) (w : Words p.words) wher
   pub ack_nack_does : (set : SequenceNumberSet) (last : SequenceNumber) (r : AckNacked) (u g : List ℕ) → Gives2 r u g (ack_nacked_of set last p.proxy p.unsent p.gaps) → r.answer.number ≡ 0
       → Stands (record { proxy = r.proxy; unsent = u; gaps = g; samples = p.samples; words = p.words }) (acknowledge (rank_of last) (rank_of set.base) (members (sequence_set set)) (record_view p))
   ack_nack_does set last r u g o z =
-      let did = was_done (ack_rows p.proxy p.unsent p.gaps set last) not_acked_lem (ack_leaves set (rank_of last) p.proxy p.unsent p.gaps) (λ x. x.result.answer) (λ a. refl) (ap (λ (x : AckNacked). x.answer.number) (sym o.result) ∙ z) in
+      let did = was_done (ack_rows p.proxy p.unsent p.gaps set last) not_acked (ack_leaves set (rank_of last) p.proxy p.unsent p.gaps) (λ x. x.result.answer) (λ a. refl) (ap (λ (x : AckNacked). x.answer.number) (sym o.result) ∙ z) in
       let k = did.1 in
       let rg = neither (negative set.base) (not (in_range last top_number)) (k 2 refl) in
       let q = acknowledge (rank_of last) (rank_of set.base) (members (sequence_set set)) (record_view p) in
@@ -280,5 +280,5 @@ module _ (p : Picture) (c : record_coherent p ≡ true) (w : Words p.words) wher
             (in_range_lem last top_number (not-false (in_range last top_number) rg.1)).1 (k 12 refl);
       }
     where
-      not_acked_lem : Answer → Left2 AckNacked (List ℕ) (List ℕ)
-      not_acked_lem a = record { result = record { answer = a; left_out = 0; proxy = p.proxy }; first = p.unsent; second = p.gaps }
+      not_acked : Answer → Left2 AckNacked (List ℕ) (List ℕ)
+      not_acked a = record { result = record { answer = a; left_out = 0; proxy = p.proxy }; first = p.unsent; second = p.gaps }

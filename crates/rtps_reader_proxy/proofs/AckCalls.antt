@@ -20,7 +20,7 @@ use Rattle.numbers.specs.Promise.{Left1, Left2, Gives1, Gives2}
 use Rattle.numbers.specs.declared.answer.Answer.{Answer}
 use Rattle.numbers.specs.declared.sequence_number.SequenceNumber.{SequenceNumber}
 use Rattle.numbers.specs.Answers.{earlier, in_turn}
-use Rattle.numbers.proofs.Refused.{clear, is_refused, is-done, gives1}
+use Rattle.numbers.proofs.Refused.{clear, is_refused, is-done, gives2}
 use Rattle.numbers.proofs.Answered.{answer_refused, answer-done, left-done, turn-done}
 use Rattle.numbers.proofs.Ranks.{in_range_lem}
 use Rattle.number_sets.specs.declared.sequence_number_set.SequenceNumberSet.{SequenceNumberSet}
@@ -30,19 +30,13 @@ use Rattle.number_sets.proofs.Meaning.{members-few}
 use Rattle.rising.specs.Runs.{run_coherent, room_of, in_room, from_on, before}
 use Rattle.rising.proofs.Meaning.{RunIs, run_is, in_room_lem, room-is, room_ok, room_take, room-length, from_only, rising_only}
 use Rattle.rising.proofs.Changes.{between-room, only_le}
-use Rattle.requested_fragments.specs.Entries.{Entry, entries_from}
-use Rattle.requested_fragments.specs.Table.{frag_rooms_coherent, entries_of, samples_room, words_room, same, kept_in}
-use Rattle.requested_fragments.proofs.Keep.{kept-none, kept_again}
-use Rattle.requested_fragments.proofs.OneForm.{Words}
-use Rattle.requested_fragments.proofs.Both.{rooms_are}
 use Rattle.joined_runs.specs.Joined.{joined_in}
 use Rattle.joined_runs.proofs.Meaning.{join_is}
 use Rattle.rtps_reader_proxy.specs.declared.proxy.ReaderProxy.{ReaderProxy}
 use Rattle.rtps_reader_proxy.specs.declared.acks.AckNacked.{AckNacked}
-use Rattle.rtps_reader_proxy.specs.Reader.{Reader, base_of, is_late, is_ahead, staying, wanted, acked_after, left_out_of, unsettled}
-use Rattle.rtps_reader_proxy.specs.Record.{Rooms, lent_rooms, proxy_coherent, room_for, unsent_coherent, gaps_coherent, gap_floor}
-use Rattle.rtps_reader_proxy.specs.Fragments.{frags_coherent, entries_in}
-use Rattle.rtps_reader_proxy.specs.Acks.{rooms_coherent, ack_rows, ack_fits, not_acked, ack_nacked_of, among_answer, ack_nacked_among, ack_leaves, by_rooms, run_left, Stayable, unsettled_in, Ackable, acked_with}
+use Rattle.rtps_reader_proxy.specs.Reader.{Reader, base_of, is_late, is_ahead, staying, wanted, acked_after, left_out_of}
+use Rattle.rtps_reader_proxy.specs.Record.{proxy_coherent, room_for, unsent_coherent, gaps_coherent, gap_floor}
+use Rattle.rtps_reader_proxy.specs.Acks.{ack_rows, ack_fits, ack_nacked_of, among_answer, ack_nacked_among, ack_leaves, acked_reader, by_both, proxy_after, run_left, Stayable, Ackable, acked_with}
 use Rattle.rtps_reader_proxy.proofs.Parts.{room_for_lem, smallest-fits, union_le}
 use Rattle.rtps_reader_proxy.proofs.UnsentCalls.{UnsentIs, unsent-is}
 use Rattle.rtps_reader_proxy.proofs.GapCalls.{GapsAre, gaps_are}
@@ -78,58 +72,7 @@ stayed_ok count last base a room r = go (is_late a base)
         room_ok 0 (length room) (between (base_of base) last (take count room)) (omega (arith, only_le (λ n. leb (base_of base) n && leb n last) (take count room), few))
         (rising_only 0 (λ n. leb (base_of base) n && leb n last) (take count room) r.rises)
 
--- WHAT IS LEFT OF THE FRAGMENTS passes the check, is what the step leaves, and is as long
-module _ (b a : ℕ) (c : ℕ) (S W : List ℕ) where
-  pub unsettled_late : (t : ℕ) → t ≡ max b 1 → t < a → Gives2 c S W (unsettled_in b a c S W)
-  unsettled_late t e h =
-      let l : is_late a b ≡ true = lt-ltb (base_of b) a (omega arith) in
-      rw l (record { result = refl; first = refl; second = refl })
-
-  pub unsettled-none : c ≡ 0 → Gives2 c S W (unsettled_in b a c S W)
-  unsettled-none z = go (is_late a b)
-    where
-      go : (t : Bool) → Gives2 c S W (cond t (same c S W) (kept_in (base_of b) c S W))
-      go true = record { result = refl; first = refl; second = refl }
-      go false = kept-none (base_of b) c S W z
-
-  pub unsettled_from : (t : ℕ) → t ≡ max b 1 → a ≤ t → (n : ℕ) (X Y : List ℕ) → Gives2 n X Y (kept_in t c S W) → Gives2 n X Y (unsettled_in b a c S W)
-  unsettled_from t e h n X Y g =
-      let l : is_late a b ≡ false = le-ltb (base_of b) a (omega arith) in
-      rw l (subst (λ (x : ℕ). Gives2 n X Y (kept_in x c S W)) e g)
-
-  unsettled_again : frag_rooms_coherent c S W ≡ true
-      → (frag_rooms_coherent (unsettled_in b a c S W).result (unsettled_in b a c S W).first (unsettled_in b a c S W).second ≡ true)
-      × (entries_of (unsettled_in b a c S W).result (unsettled_in b a c S W).first (unsettled_in b a c S W).second ≡ unsettled b a (entries_of c S W))
-      × (length (unsettled_in b a c S W).first ≡ length S)
-  unsettled_again k = go (is_late a b)
-    where
-      abbrev left : Bool → Left2 ℕ (List ℕ) (List ℕ)
-      left t = cond t (same c S W) (kept_in (base_of b) c S W)
-
-      go : (t : Bool)
-          → (frag_rooms_coherent (left t).result (left t).first (left t).second ≡ true)
-          × (entries_of (left t).result (left t).first (left t).second ≡ cond t (entries_of c S W) (entries_from (base_of b) (entries_of c S W)))
-          × (length (left t).first ≡ length S)
-      go true = (k, refl, refl)
-      go false = kept_again c S W (base_of b) k
-
-  unsettled-is : frag_rooms_coherent c S W ≡ true → (n : ℕ) (X Y : List ℕ) → Gives2 n X Y (unsettled_in b a c S W) → Words Y
-      → (n ≡ length (unsettled b a (entries_of c S W))) × (X ≡ samples_room (length S) (unsettled b a (entries_of c S W))) × (Y ≡ words_room (length S) (unsettled b a (entries_of c S W)))
-  unsettled-is k n X Y g w =
-      let y = unsettled_again k in
-      let ok : frag_rooms_coherent n X Y ≡ true = rw (g.result, g.first, g.second) y.0 in
-      let v : entries_of n X Y ≡ unsettled b a (entries_of c S W) = rw (g.result, g.first, g.second) y.1 in
-      let l : length X ≡ length S = ap length g.first ∙ y.2 in
-      let q = rooms_are n X Y ok w in (
-        q.0 ∙ ap length v,
-        q.1 ∙ ap (samples_room (length X)) v ∙ ap (λ (m : ℕ). samples_room m (unsettled b a (entries_of c S W))) l,
-        q.2 ∙ ap (words_room (length X)) v ∙ ap (λ (m : ℕ). words_room m (unsettled b a (entries_of c S W))) l,
-      )
-
-rooms_same : (u u' g g' s s' w w' : List ℕ) → u ≡ u' → g ≡ g' → s ≡ s' → w ≡ w' → lent_rooms u g s w ≡ lent_rooms u' g' s' w'
-rooms_same u u' g g' s s' w w' eu eg es ew = rw (eu, eg, es, ew)
-
-module _ (h : ReaderProxy) (unsent gaps samples words : List ℕ) (set : SequenceNumberSet) (last : ℕ) (k : Ackable h (lent_rooms unsent gaps samples words) set last) where
+module _ (h : ReaderProxy) (unsent gaps : List ℕ) (set : SequenceNumberSet) (last : ℕ) (k : Ackable h unsent gaps set last) where
   us : UnsentIs h unsent
   us = unsent-is h unsent k.unsent-coherent
 
@@ -175,10 +118,9 @@ module _ (h : ReaderProxy) (unsent gaps samples words : List ℕ) (set : Sequenc
     long_kept : length v ≡ length unsent
     long_kept = ap length s.first ∙ room-length (length unsent) (staying last base a old) (omega (arith, stays-few, length-take h.unsent_count unsent))
 
-    module _ (total kept entries : ℕ) (u g s' w' : List ℕ) (r : AckNacked)
+    module _ (total kept : ℕ) (u g : List ℕ) (r : AckNacked)
         (j : Gives1 total u (joined_in set low last c v))
-        (w : Gives1 kept g (in_room (from_on low) h.gap_count gaps))
-        (x : Gives2 entries s' w' (unsettled_in base a h.frag_count samples words)) (bits : Words w') (er : r ≡ acked_with low total kept entries h) where
+        (w : Gives1 kept g (in_room (from_on low) h.gap_count gaps)) (er : r ≡ acked_with low total kept h) where
       t : (total ≡ length (union (between low last (members (sequence_set set))) (take c v))) × (u ≡ room_of (length v) (smallest (length v) (union (between low last (members (sequence_set set))) (take c v))))
       t = join_is c v kept_run set low last k.bits k.base (omega arith) total u j
 
@@ -201,61 +143,52 @@ module _ (h : ReaderProxy) (unsent gaps samples words : List ℕ) (set : Sequenc
             union_le (between (acked_after A B) last (members (sequence_set set))) (staying last B A old),
           ))
 
-      -- the entries of fragments, by the base and A
-      left : List Entry
-      left = unsettled B A (entries_in h samples words)
-
-      frags-left : (entries ≡ length left) × (s' ≡ samples_room (length samples) left) × (w' ≡ words_room (length samples) left)
-      frags-left =
-          unsettled-is B A h.frag_count samples words (and_right (proxy_coherent h) (frag_rooms_coherent h.frag_count samples words) k.frags-coherent) entries s' w'
-          (subst (λ (y : ℕ). Gives2 entries s' w' (unsettled_in B y h.frag_count samples words)) ea (subst (λ (y : ℕ). Gives2 entries s' w' (unsettled_in y a h.frag_count samples words)) eb x)) bits
-
-      pub acknowledged-is : Gives1 r (lent_rooms u g s' w') (ack_leaves set last h (lent_rooms unsent gaps samples words))
+      pub acknowledged-is : Gives2 r u g (ack_leaves set last h unsent gaps)
       acknowledged-is =
           let tl : total ≡ length (wanted last B (members (sequence_set set)) A old) = t.0 ∙ ap length all_is in
-          let lo : total - h.unsent_cap ≡ left_out_of last B (members (sequence_set set)) (by_rooms h (lent_rooms unsent gaps samples words)) = ap (λ (y : ℕ). y - h.unsent_cap) tl in
+          let lo : total - h.unsent_cap ≡ left_out_of last B (members (sequence_set set)) (by_both h unsent gaps) = ap (λ (y : ℕ). y - h.unsent_cap) tl in
           let cu : total - (total - h.unsent_cap) ≡ length (smallest h.unsent_cap (wanted last B (members (sequence_set set)) A old)) = omega (arith, length-take h.unsent_cap (wanted last B (members (sequence_set set)) A old)) in
           let fr : From 1 held = From_weak 1 (suc (gap_floor h)) held (omega arith) gs.run.rises.from in
           let y = in_room_lem (gap_floor h) h.gap_count gaps (from_on low) (only (leb low) held) gs.run (from_only low 1 held fr) (omega (arith, only_le (leb low) held, length-take h.gap_count gaps)) kept g w in
           let gk : only (leb low) held ≡ only (leb (acked_after A B)) held = ap (λ (z : ℕ). only (leb z) held) low-is in
           let ck : kept ≡ length (only (leb (acked_after A B)) held) = y.0 ∙ ap length gk in
           record {
-            result = er ∙ rw (cu, lo, ck, low-is, frags-left.0);
+            result = er ∙ rw (cu, lo, ck, low-is);
             first =
-                rooms_same u _ g _ s' _ w' _
-                (t.1 ∙ ap (λ (z : ℕ). room_of z (smallest z (union (between low last (members (sequence_set set))) (take c v)))) long_kept
-                ∙ ap (λ (z : List ℕ). room_of (length unsent) (smallest (length unsent) z)) all_is ∙ ap (room_of (length unsent)) all_fits)
-                (y.1 ∙ ap (room_of (length gaps)) gk) frags-left.1 frags-left.2;
+                t.1 ∙ ap (λ (z : ℕ). room_of z (smallest z (union (between low last (members (sequence_set set))) (take c v)))) long_kept
+                ∙ ap (λ (z : List ℕ). room_of (length unsent) (smallest (length unsent) z)) all_is ∙ ap (room_of (length unsent)) all_fits;
+            second = y.1 ∙ ap (room_of (length gaps)) gk;
           }
 
 -- THE WHOLE CALL
 
 -- its rows, by what the code found
-pub ack_rows_lem : (set : SequenceNumberSet) (last : SequenceNumber) (h : ReaderProxy) (m : Rooms) (a : Answer) (x : ℕ) (f u g p w n : Bool) (end b l : ℕ)
-    → x ≡ min set.count 256 → f ≡ room_for x h.unsent_cap h.unsent_count m.unsent → u ≡ unsent_coherent h m.unsent → g ≡ gaps_coherent h m.gaps → p ≡ frags_coherent h m.samples m.words
-    → w ≡ in_range last top_number → n ≡ negative set.base → end ≡ rank_of last → b ≡ rank_of set.base → l ≡ max b 1
-    → a ≡ answer_of (row 1 refl (not (f && (u && (g && p)))) ∷ row 3 refl (ltb 256 set.count) ∷ row 2 refl (n || not w) ∷ row 12 refl (ltb (end + 1) l) ∷ [])
-    → a ≡ answer_of (ack_rows h m set last)
-ack_rows_lem set last h m a x f u g p w n end b l ex ef eu eg ep ew en ee eb el q = q ∙ rw (ef, ex, eu, eg, ep, ew, en, el, ee, eb, add-one)
+pub ack_rows_lem : (set : SequenceNumberSet) (last : SequenceNumber) (h : ReaderProxy) (unsent gaps : List ℕ) (a : Answer) (x : ℕ) (f u g w n : Bool) (end b m : ℕ)
+    → x ≡ min set.count 256 → f ≡ room_for x h.unsent_cap h.unsent_count unsent → u ≡ unsent_coherent h unsent → g ≡ gaps_coherent h gaps → w ≡ in_range last top_number → n ≡ negative set.base → end ≡ rank_of last → b ≡ rank_of set.base → m ≡ max b 1
+    → a ≡ answer_of (row 1 refl (not (f && (u && g))) ∷ row 3 refl (ltb 256 set.count) ∷ row 2 refl (n || not w) ∷ row 12 refl (ltb (end + 1) m) ∷ [])
+    → a ≡ answer_of (ack_rows h unsent gaps set last)
+ack_rows_lem set last h unsent gaps a x f u g w n end b m ex ef eu eg ew en ee eb em q = q ∙ rw (ef, ex, eu, eg, ew, en, em, ee, eb, add-one)
 
-module _ (set : SequenceNumberSet) (last : SequenceNumber) (h : ReaderProxy) (m : Rooms) (a : Answer) (q : a ≡ answer_of (ack_rows h m set last)) where
-  pub ack_refused : (a.number ≡ 0 → ⊥) → Gives1 (record { answer = a; left_out = 0; proxy = h }) m (ack_nacked_of set last h m)
+module _ (set : SequenceNumberSet) (last : SequenceNumber) (h : ReaderProxy) (unsent gaps : List ℕ) (a : Answer) (q : a ≡ answer_of (ack_rows h unsent gaps set last)) where
+  abbrev not_acked : Answer → Left2 AckNacked (List ℕ) (List ℕ)
+  not_acked x = record { result = record { answer = x; left_out = 0; proxy = h }; first = unsent; second = gaps }
+
+  pub ack_refused : (a.number ≡ 0 → ⊥) → Gives2 (record { answer = a; left_out = 0; proxy = h }) unsent gaps (ack_nacked_of set last h unsent gaps)
   ack_refused z =
-      gives1 (record { answer = a; left_out = 0; proxy = h }) m (not_acked h m a) (ack_nacked_of set last h m) (is_refused (ack_rows h m set last) a q (not_acked h m) (ack_leaves set (rank_of last) h m) z) refl refl
+      gives2 (record { answer = a; left_out = 0; proxy = h }) unsent gaps (not_acked a) (ack_nacked_of set last h unsent gaps)
+      (is_refused (ack_rows h unsent gaps set last) a q not_acked (ack_leaves set (rank_of last) h unsent gaps) z) refl refl refl
 
   module _ (z : a.number ≡ 0) where
-    pub ackable : (end : ℕ) → end ≡ rank_of last → Ackable h m set end
+    pub ackable : (end : ℕ) → end ≡ rank_of last → Ackable h unsent gaps set end
     ackable end e =
-        let c = clear (ack_rows h m set last) a q z in
-        let all = not-false (ack_fits h m.unsent set && rooms_coherent h m) (c 1 refl) in
-        let rooms = and_right (ack_fits h m.unsent set) (rooms_coherent h m) all in
-        let rest = and_right (unsent_coherent h m.unsent) (gaps_coherent h m.gaps && frags_coherent h m.samples m.words) rooms in
+        let c = clear (ack_rows h unsent gaps set last) a q z in
+        let all = not-false (ack_fits h unsent set && (unsent_coherent h unsent && gaps_coherent h gaps)) (c 1 refl) in
+        let both = and_right (ack_fits h unsent set) (unsent_coherent h unsent && gaps_coherent h gaps) all in
         let rg = or_none_lem (negative set.base) (not (in_range last top_number)) (c 2 refl) in
         record {
-          fits = and_left (ack_fits h m.unsent set) (rooms_coherent h m) all;
-          unsent-coherent = and_left (unsent_coherent h m.unsent) (gaps_coherent h m.gaps && frags_coherent h m.samples m.words) rooms;
-          gaps-coherent = and_left (gaps_coherent h m.gaps) (frags_coherent h m.samples m.words) rest;
-          frags-coherent = and_right (gaps_coherent h m.gaps) (frags_coherent h m.samples m.words) rest;
+          fits = and_left (ack_fits h unsent set) (unsent_coherent h unsent && gaps_coherent h gaps) all;
+          unsent-coherent = and_left (unsent_coherent h unsent) (gaps_coherent h gaps) both;
+          gaps-coherent = and_right (unsent_coherent h unsent) (gaps_coherent h gaps) both;
           bits = ltb-false 256 set.count (c 3 refl);
           base = rg.0;
           top = omega (arith, (in_range_lem last top_number (not-false (in_range last top_number) rg.1)).1);
@@ -266,24 +199,28 @@ module _ (set : SequenceNumberSet) (last : SequenceNumber) (h : ReaderProxy) (m 
         or_none_lem true y e = (e, absurd (true≢false e))
         or_none_lem false y e = (refl, e)
 
-    pub ack-done : (end : ℕ) (r : AckNacked) (v : Rooms) → end ≡ rank_of last → Gives1 r v (ack_leaves set end h m) → Gives1 r v (ack_nacked_of set last h m)
-    ack-done end r v e p = subst (Gives1 r v) (ap (λ (x : ℕ). ack_leaves set x h m) e ∙ is-done (ack_rows h m set last) a q (not_acked h m) (ack_leaves set (rank_of last) h m) z) p
+    pub ack-done : (end : ℕ) (r : AckNacked) (u g : List ℕ) → end ≡ rank_of last → Gives2 r u g (ack_leaves set end h unsent gaps) → Gives2 r u g (ack_nacked_of set last h unsent gaps)
+    ack-done end r u g e p =
+        subst (Gives2 r u g) (ap (λ (x : ℕ). ack_leaves set x h unsent gaps) e ∙ is-done (ack_rows h unsent gaps set last) a q not_acked (ack_leaves set (rank_of last) h unsent gaps) z) p
 
 -- as one of a step's calls
-module _ (beside after : Answer) (set : SequenceNumberSet) (last : SequenceNumber) (h : ReaderProxy) (m : Rooms) (own : Answer) (q : own ≡ answer_of (ack_rows h m set last))
+module _ (beside after : Answer) (set : SequenceNumberSet) (last : SequenceNumber) (h : ReaderProxy) (unsent gaps : List ℕ) (own : Answer) (q : own ≡ answer_of (ack_rows h unsent gaps set last))
     (all : Answer) (qa : all ≡ earlier own beside) (a : Answer) (qt : a ≡ in_turn all after) where
-  is_among : a ≡ among_answer beside after set last h m
+  abbrev not_taken : Answer → Left2 AckNacked (List ℕ) (List ℕ)
+  not_taken x = record { result = record { answer = x; left_out = 0; proxy = h }; first = unsent; second = gaps }
+
+  is_among : a ≡ among_answer beside after set last h unsent gaps
   is_among = qt ∙ ap (λ (x : Answer). in_turn x after) (qa ∙ ap (λ (x : Answer). earlier x beside) q)
 
-  pub among_refused : (a.number ≡ 0 → ⊥) → Gives1 (record { answer = a; left_out = 0; proxy = h }) m (ack_nacked_among beside after set last h m)
+  pub among_refused : (a.number ≡ 0 → ⊥) → Gives2 (record { answer = a; left_out = 0; proxy = h }) unsent gaps (ack_nacked_among beside after set last h unsent gaps)
   among_refused z =
-      gives1 (record { answer = a; left_out = 0; proxy = h }) m (not_acked h m a) (ack_nacked_among beside after set last h m)
-      (answer_refused (among_answer beside after set last h m) a is_among (not_acked h m) (ack_leaves set (rank_of last) h m) z) refl refl
+      gives2 (record { answer = a; left_out = 0; proxy = h }) unsent gaps (not_taken a) (ack_nacked_among beside after set last h unsent gaps)
+      (answer_refused (among_answer beside after set last h unsent gaps) a is_among not_taken (ack_leaves set (rank_of last) h unsent gaps) z) refl refl refl
 
   module _ (z : a.number ≡ 0) where
     pub own_done : own.number ≡ 0
     own_done = left-done own beside (sym (ap (λ (x : Answer). x.number) qa) ∙ (turn-done all after (sym (ap (λ (x : Answer). x.number) qt) ∙ z)).0)
 
-    pub among_done : (end : ℕ) (r : AckNacked) (v : Rooms) → end ≡ rank_of last → Gives1 r v (ack_leaves set end h m) → Gives1 r v (ack_nacked_among beside after set last h m)
-    among_done end r v e p =
-        subst (Gives1 r v) (ap (λ (x : ℕ). ack_leaves set x h m) e ∙ answer-done (among_answer beside after set last h m) a is_among (not_acked h m) (ack_leaves set (rank_of last) h m) z) p
+    pub among_done : (end : ℕ) (r : AckNacked) (u g : List ℕ) → end ≡ rank_of last → Gives2 r u g (ack_leaves set end h unsent gaps) → Gives2 r u g (ack_nacked_among beside after set last h unsent gaps)
+    among_done end r u g e p =
+        subst (Gives2 r u g) (ap (λ (x : ℕ). ack_leaves set x h unsent gaps) e ∙ answer-done (among_answer beside after set last h unsent gaps) a is_among not_taken (ack_leaves set (rank_of last) h unsent gaps) z) p

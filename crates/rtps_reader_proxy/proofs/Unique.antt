@@ -12,7 +12,6 @@ use Rattle.rtps_reader_proxy.specs.declared.proxy.ReaderProxy.{ReaderProxy}
 use Rattle.rtps_reader_proxy.specs.declared.proxy.Changed.{Changed}
 use Rattle.rtps_reader_proxy.specs.declared.unsent.Taken.{Taken}
 use Rattle.rtps_reader_proxy.specs.declared.acks.AckNacked.{AckNacked}
-use Rattle.rtps_reader_proxy.specs.Record.{Rooms}
 use Rattle.rtps_reader_proxy.specs.Unsent.{notified_of, marked_sent_of, removed_before_of, taken_of}
 use Rattle.rtps_reader_proxy.specs.Gaps.{gap_inserted_of, gap_up_to_of}
 use Rattle.rtps_reader_proxy.specs.Acks.{ack_nacked_of}
@@ -45,6 +44,5 @@ module _ (h : ReaderProxy) (x y : List ℕ) where
   pub take_one : {r s : Taken} {u v w z : List ℕ} → Gives2 r u w (taken_of h x y) → Gives2 s v z (taken_of h x y) → (r ≡ s) × (u ≡ v) × (w ≡ z)
   take_one p q = one2 p q
 
--- all of the record's rooms at once
-pub ack_nack_one : (set : SequenceNumberSet) (last : SequenceNumber) (h : ReaderProxy) (m : Rooms) {r s : AckNacked} {u v : Rooms} → Gives1 r u (ack_nacked_of set last h m) → Gives1 s v (ack_nacked_of set last h m) → (r ≡ s) × (u ≡ v)
-ack_nack_one set last h m p q = one1 p q
+  pub ack_nack_one : (set : SequenceNumberSet) (last : SequenceNumber) {r s : AckNacked} {u v w z : List ℕ} → Gives2 r u w (ack_nacked_of set last h x y) → Gives2 s v z (ack_nacked_of set last h x y) → (r ≡ s) × (u ≡ v) × (w ≡ z)
+  ack_nack_one set last p q = one2 p q

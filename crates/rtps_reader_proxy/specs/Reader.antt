@@ -2,7 +2,7 @@
 -- both ends cite these. Every step computes. Assumes nothing.
 use Rattle.std.specs.Prelude.{ℕ, zero, suc, ◌-◌, max, Bool, true, false, not, cond, ◌&&◌, ◌||◌, List, [], ◌∷◌, ltb, leb, length}
 use Rattle.sets.specs.Sets.{has, empty, insert, union, only, between, without, smallest, largest}
-use Rattle.requested_fragments.specs.Entries.{Entry, samples_of, requested, sent, entries_from}
+use Rattle.requested_fragments.specs.Entries.{Entry, samples_of, requested, sent}
 
 pub record Reader : Type 0 where
   pub acked : ℕ
@@ -55,17 +55,12 @@ staying last b a u = cond (is_late a b) u (between (base_of b) last u)
 abbrev pub wanted : ℕ → ℕ → List ℕ → ℕ → List ℕ → List ℕ
 wanted last b ms a u = union (between (acked_after a b) last ms) (staying last b a u)
 
--- request P1: "an accepted ACKNACK also removes every fragment entry whose sample is below the new base. A late .. ACKNACK removes none"
-abbrev pub unsettled : ℕ → ℕ → List Entry → List Entry
-unsettled b a es = cond (is_late a b) es (entries_from (base_of b) es)
-
--- "If the result would hold more than M numbers, the M smallest stay"; "gap members below b go"; and so do the requested fragments of what is settled
+-- "If the result would hold more than M numbers, the M smallest stay"; "gap members below b go"; "Requested fragments aren't touched"
 abbrev pub acknowledge : ℕ → ℕ → List ℕ → Reader → Reader
 acknowledge last b ms r =
     with_acked (acked_after r.acked b)
     (with_unsent (smallest r.cap (wanted last b ms r.acked r.unsent))
-    (with_gaps r.prefix (only (leb (acked_after r.acked b)) r.gaps)
-    (with_frags (unsettled b r.acked r.frags) r)))
+    (with_gaps r.prefix (only (leb (acked_after r.acked b)) r.gaps) r))
 
 -- "the count is the size of the untrimmed set less M, or 0"
 abbrev pub left_out_of : ℕ → ℕ → List ℕ → Reader → ℕ

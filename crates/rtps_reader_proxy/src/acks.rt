@@ -3,15 +3,13 @@ ghost use Rattle.std.specs.Prelude.{◌≡◌, refl, not, [], ◌∷◌, length,
 ghost use Rattle.numbers.specs.Promise.{Gives1, Gives2};
 ghost use Rattle.numbers.specs.Refusals.{row, answer_of};
 ghost use Rattle.rtps_reader_proxy.specs.Reader.{staying};
-ghost use Rattle.rtps_reader_proxy.specs.Record.{lent_rooms};
-ghost use Rattle.rtps_reader_proxy.specs.Acks.{ack_nacked_of, ack_nacked_among, ack_rows, ack_leaves, acked_with, Ackable, run_left, Stayable, unsettled_in};
+ghost use Rattle.rtps_reader_proxy.specs.Acks.{ack_nacked_of, ack_nacked_among, ack_rows, ack_leaves, acked_with, Ackable, run_left, Stayable};
 
 use crate::proxy::{ReaderProxy, last_of, room_for};
 use joined_runs::join;
 use number_sets::SequenceNumberSet;
 use numbers::answers::{earlier, in_turn};
 use numbers::{Answer, SequenceNumber, arith};
-use requested_fragments::table;
 use rising::room;
 
 #[repr(C)]
@@ -38,17 +36,6 @@ fn stay(unsent: &mut [u64], count: usize, a: u64, base: u64, last: u64) -> usize
     room::keep_before(unsent, some, last + 1)
 }
 
-// The samples with requested fragments that it leaves: all if it is late, else those from b on. How many there are.
-fn unsettled(samples: &mut [u64], words: &mut [u64], count: usize, a: u64, base: u64) -> usize
-    ensures { Gives2 result samples.new words.new (unsettled_in base a count samples.old words.old) }
-{
-    let b = arith::larger(base, 1);
-    if (b < a) | (count == 0) {
-        return count;
-    }
-    table::keep_from(samples, words, count, b)
-}
-
 // The answer of an acknowledgement: 1, 3, 2, 12 or done.
 fn ack_answer(coherent: bool, bits: bool, range: bool, ahead: bool) -> Answer
     ensures { result ≡ answer_of (row 1 refl (not coherent) ∷ row 3 refl bits ∷ row 2 refl range ∷ row 12 refl ahead ∷ []) }
@@ -66,17 +53,14 @@ impl ReaderProxy {
         self,
         unsent: &[u64],
         gaps: &[u64],
-        samples: &[u64],
-        words: &[u64],
         set: SequenceNumberSet,
         last: SequenceNumber,
     ) -> Answer
-        ensures { result ≡ answer_of (ack_rows self (lent_rooms unsent.now gaps.now samples.now words.now) set last) }
+        ensures { result ≡ answer_of (ack_rows self unsent.now gaps.now set last) }
     {
         let asked = arith::smaller(set.count as usize, SequenceNumberSet::MOST_MEMBERS);
         let fits = room_for(unsent, self.unsent_count, self.unsent_cap, asked);
-        let frags = self.frags_coherent(samples, words);
-        let coherent = self.unsent_coherent(unsent) & (self.gaps_coherent(gaps) & frags);
+        let coherent = self.unsent_coherent(unsent) & self.gaps_coherent(gaps);
         let within = last.within(SequenceNumber::LAST);
         let end = last.rank();
         let bits = SequenceNumberSet::MOST_BITS < set.count;
@@ -86,14 +70,13 @@ impl ReaderProxy {
     }
 
     // The proxy after an acknowledgement, with what is left out of `total` numbers.
-    fn with_acked(mut self, low: u64, total: usize, kept: usize, entries: usize) -> AckNacked
-        ensures { result ≡ acked_with low total kept entries self }
+    fn with_acked(mut self, low: u64, total: usize, kept: usize) -> AckNacked
+        ensures { result ≡ acked_with low total kept self }
     {
         let left_out = arith::excess(total, self.unsent_cap);
         self.all_acked_before = SequenceNumber::from_rank(low);
         self.unsent_count = total - left_out;
         self.gap_count = kept;
-        self.frag_count = entries;
         let answer = Answer::done();
         AckNacked {
             answer,
@@ -107,13 +90,11 @@ impl ReaderProxy {
         self,
         unsent: &mut [u64],
         gaps: &mut [u64],
-        samples: &mut [u64],
-        words: &mut [u64],
         set: SequenceNumberSet,
         last: u64,
     ) -> AckNacked
-        requires { Ackable self (lent_rooms unsent.old gaps.old samples.old words.old) set last }
-        ensures { Gives1 result (lent_rooms unsent.new gaps.new samples.new words.new) (ack_leaves set last self (lent_rooms unsent.old gaps.old samples.old words.old)) }
+        requires { Ackable self unsent.old gaps.old set last }
+        ensures { Gives2 result unsent.new gaps.new (ack_leaves set last self unsent.old gaps.old) }
     {
         let a = self.all_acked_before.rank();
         let base = set.base.rank();
@@ -121,8 +102,7 @@ impl ReaderProxy {
         let old = stay(unsent, self.unsent_count, a, base, last);
         let total = join(unsent, old, set, low, last);
         let kept = room::keep_from(gaps, self.gap_count, low);
-        let entries = unsettled(samples, words, self.frag_count, a, base);
-        self.with_acked(low, total, kept, entries)
+        self.with_acked(low, total, kept)
     }
 
     // An ACKNACK is taken, where `last` is the last number written.
@@ -130,14 +110,12 @@ impl ReaderProxy {
         self,
         unsent: &mut [u64],
         gaps: &mut [u64],
-        samples: &mut [u64],
-        words: &mut [u64],
         set: SequenceNumberSet,
         last: SequenceNumber,
     ) -> AckNacked
-        ensures { Gives1 result (lent_rooms unsent.new gaps.new samples.new words.new) (ack_nacked_of set last self (lent_rooms unsent.old gaps.old samples.old words.old)) }
+        ensures { Gives2 result unsent.new gaps.new (ack_nacked_of set last self unsent.old gaps.old) }
     {
-        let answer = self.check_ack(unsent, gaps, samples, words, set, last);
+        let answer = self.check_ack(unsent, gaps, set, last);
         if answer.number != 0 {
             return AckNacked {
                 answer,
@@ -145,7 +123,7 @@ impl ReaderProxy {
                 proxy: self,
             };
         }
-        self.acknowledged(unsent, gaps, samples, words, set, last.rank())
+        self.acknowledged(unsent, gaps, set, last.rank())
     }
 
     // The same as one of a step's calls: `beside` is what those are answered that are asked with it, `after` what the one is that comes after them. It is
@@ -154,16 +132,14 @@ impl ReaderProxy {
         self,
         unsent: &mut [u64],
         gaps: &mut [u64],
-        samples: &mut [u64],
-        words: &mut [u64],
         set: SequenceNumberSet,
         last: SequenceNumber,
         beside: Answer,
         after: Answer,
     ) -> AckNacked
-        ensures { Gives1 result (lent_rooms unsent.new gaps.new samples.new words.new) (ack_nacked_among beside after set last self (lent_rooms unsent.old gaps.old samples.old words.old)) }
+        ensures { Gives2 result unsent.new gaps.new (ack_nacked_among beside after set last self unsent.old gaps.old) }
     {
-        let own = self.check_ack(unsent, gaps, samples, words, set, last);
+        let own = self.check_ack(unsent, gaps, set, last);
         let all = earlier(own, beside);
         let answer = in_turn(all, after);
         if answer.number != 0 {
@@ -173,6 +149,6 @@ impl ReaderProxy {
                 proxy: self,
             };
         }
-        self.acknowledged(unsent, gaps, samples, words, set, last.rank())
+        self.acknowledged(unsent, gaps, set, last.rank())
     }
 }

@@ -1,0 +1,64 @@
+-- `handle_ack_nack_among` meets its contract. Assumes nothing.
+use Rattle.rtps_reader_proxy.proofs.AckCalls.{among_refused, own_done, ackable, among_done}
+use borrow.Author.Rules.{rules}
+use Rattle.rtps_reader_proxy.proofs.proxy.ReaderProxy.handle_ack_nack_among.Statement.{statement}
+use Rattle.rtps_reader_proxy.proofs.proxy.ReaderProxy.handle_ack_nack_among.Tie as tie
+
+check-ack-requires : tie.Need-check-ack-requires
+check-ack-requires c κs = search rules
+
+earlier-requires : tie.Need-earlier-requires
+earlier-requires c κs = search rules
+
+in-turn-requires : tie.Need-in-turn-requires
+in-turn-requires c κs = search rules
+
+same_length : tie.Need-same-length
+same_length c = search rules
+
+same-length-2 : tie.Need-same-length-2
+same-length-2 c = search rules
+
+returns : tie.Need-returns
+returns c =
+    let args = c.before.before.before.before.before.before.before.before.before.args in
+    let check-ack = c.before.before.before.before.check-ack in
+    let earlier = c.before.before.before.earlier in
+    let in-turn = c.before.before.in-turn in
+    among_refused args.beside args.after args.set args.last args.self args.unsent.now args.gaps.now check-ack.result check-ack.ensures earlier.result earlier.ensures in-turn.result in-turn.ensures
+    c.if1.true
+
+rank-requires : tie.Need-rank-requires
+rank-requires c κs = search rules
+
+acknowledged-requires : tie.Need-acknowledged-requires
+acknowledged-requires c κs =
+    let args = c.before.before.before.before.before.before.before.before.before.before.before.before.args in
+    let check-ack = c.before.before.before.before.before.before.before.check-ack in
+    let earlier = c.before.before.before.before.before.before.earlier in
+    let in-turn = c.before.before.before.before.before.in-turn in
+    let if1 = c.before.before.before.if1 in
+    ackable args.set args.last args.self args.unsent.now args.gaps.now check-ack.result check-ack.ensures
+    (own_done args.beside args.after args.set args.last args.self args.unsent.now args.gaps.now check-ack.result check-ack.ensures earlier.result earlier.ensures in-turn.result in-turn.ensures if1.false)
+    c.rank.result c.rank.ensures.is
+
+same-length-3 : tie.Need-same-length-3
+same-length-3 c = search rules
+
+same-length-4 : tie.Need-same-length-4
+same-length-4 c = search rules
+
+returns-2 : tie.Need-returns-2
+returns-2 c =
+    let args = c.before.before.before.before.before.before.before.before.before.before.before.before.before.before.before.before.before.args in
+    let check-ack = c.before.before.before.before.before.before.before.before.before.before.before.before.check-ack in
+    let earlier = c.before.before.before.before.before.before.before.before.before.before.before.earlier in
+    let in-turn = c.before.before.before.before.before.before.before.before.before.before.in-turn in
+    let if1 = c.before.before.before.before.before.before.before.before.if1 in
+    let rank = c.before.before.before.before.before.rank in
+    let acknowledged = c.before.before.before.before.acknowledged in
+    among_done args.beside args.after args.set args.last args.self args.unsent.now args.gaps.now check-ack.result check-ack.ensures earlier.result earlier.ensures in-turn.result in-turn.ensures if1.false
+    rank.result acknowledged.result acknowledged.new.1.0 acknowledged.new.1.1.0 rank.ensures.is acknowledged.ensures
+
+pub handle-ack-nack-among-spec : {M : Type 1} → statement M
+handle-ack-nack-among-spec = tie.close (tie.spec check-ack-requires earlier-requires in-turn-requires same_length same-length-2 returns rank-requires acknowledged-requires same-length-3 same-length-4 returns-2)
