@@ -1,1 +1,2 @@
 // Document 01's starred examples, as one table under one claim. It has no code.
+#![tactic(auto)]

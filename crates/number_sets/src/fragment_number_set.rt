@@ -9,7 +9,7 @@ use crate::sequence_number_set::{Listed, NextRank, SequenceNumberSet, set_answer
 use numbers::{Answer, FragmentCursor, FragmentNumber, NextFragment, SequenceNumber};
 
 #[repr(C)]
-#[derive(Drop)]
+#[derive(Clone, Copy)]
 pub struct FragmentNumberSet {
     pub base: FragmentNumber,
     pub count: u32,
@@ -18,7 +18,7 @@ pub struct FragmentNumberSet {
 
 // A set made for given numbers.
 #[repr(C)]
-#[derive(Drop)]
+#[derive(Clone, Copy)]
 pub struct WrittenFragments {
     pub answer: Answer,
     pub set: FragmentNumberSet,

@@ -1,4 +1,6 @@
 // Sets as RTPS writes them: a base, a bit count 0 to 256, and eight words of 32 bits, the first bit highest.
+#![tactic(auto)]
+
 pub mod fragment_number_set;
 pub mod sequence_number_set;
 pub mod words;

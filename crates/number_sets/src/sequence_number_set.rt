@@ -13,7 +13,7 @@ use numbers::arith::smaller;
 use numbers::{Answer, Cursor, NextNumber, SequenceNumber};
 
 #[repr(C)]
-#[derive(Drop)]
+#[derive(Clone, Copy)]
 pub struct SequenceNumberSet {
     pub base: SequenceNumber,
     pub count: u32,
@@ -22,7 +22,7 @@ pub struct SequenceNumberSet {
 
 // How many members there are.
 #[repr(C)]
-#[derive(Drop)]
+#[derive(Clone, Copy)]
 pub struct Listed {
     pub answer: Answer,
     pub count: usize,
@@ -30,21 +30,21 @@ pub struct Listed {
 
 // A set made for given numbers.
 #[repr(C)]
-#[derive(Drop)]
+#[derive(Clone, Copy)]
 pub struct WrittenNumbers {
     pub answer: Answer,
     pub set: SequenceNumberSet,
 }
 
 // A member as a natural number, unless there is none.
-#[derive(Drop)]
+#[derive(Clone, Copy)]
 pub struct NextRank {
     pub none: bool,
     pub rank: u64,
 }
 
 // Whether any of some numbers lies below a window, and whether any lies above it.
-#[derive(Drop)]
+#[derive(Clone, Copy)]
 pub struct Outside {
     pub below: bool,
     pub above: bool,
@@ -63,7 +63,7 @@ pub(crate) fn set_answer(bits: bool, range: bool, none: bool) -> Answer
 // The members of a set, rising, in a room from its start, as far as they fit; how many they are in all.
 fn list_bits(words: &[u32; 8], count: usize, base: u64, out: &mut [u64]) -> usize
     requires { Readable base count }
-    ensures* { λ r. ⌜ Gives1 r out.new (record { result = length (marked count base words.now); first = filled (marked count base words.now) out.old }) ⌝ }
+    ensures { Gives1 result out.new (record { result = length (marked count base words.now); first = filled (marked count base words.now) out.old }) }
 {
     let mut k: usize = 0;
     let mut i = words::next_bit(words, count, 0);

@@ -4,7 +4,7 @@ ghost use Rattle.numbers.specs.Refusals.{row, answer_at, answer_of, done};
 
 // A call's answer: 0, or the number of the first row that holds; and the place that it is about, where a number has one. None has today.
 #[repr(C)]
-#[derive(Drop)]
+#[derive(Clone, Copy)]
 pub struct Answer {
     pub number: u32,
     pub place: u32,

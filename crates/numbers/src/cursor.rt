@@ -8,20 +8,20 @@ use crate::fragment_number::FragmentNumber;
 use crate::sequence_number::SequenceNumber;
 
 #[repr(C)]
-#[derive(Drop)]
+#[derive(Clone, Copy)]
 pub struct Cursor {
     pub from: u64,
 }
 
 // The same among fragments: a type of its own, so that neither is taken for the other.
 #[repr(C)]
-#[derive(Drop)]
+#[derive(Clone, Copy)]
 pub struct FragmentCursor {
     pub from: u64,
 }
 
 #[repr(C)]
-#[derive(Drop)]
+#[derive(Clone, Copy)]
 pub struct NextNumber {
     pub answer: Answer,
     pub number: SequenceNumber,
@@ -29,7 +29,7 @@ pub struct NextNumber {
 }
 
 #[repr(C)]
-#[derive(Drop)]
+#[derive(Clone, Copy)]
 pub struct NextFragment {
     pub answer: Answer,
     pub number: FragmentNumber,

@@ -3,7 +3,7 @@ ghost use Rattle.std.specs.Prelude.{◌≡◌, ltb};
 ghost use Rattle.numbers.specs.Number.{is_fragment, fragment_at};
 
 #[repr(C)]
-#[derive(Drop)]
+#[derive(Clone, Copy)]
 pub struct FragmentNumber(pub u32);
 
 impl FragmentNumber {

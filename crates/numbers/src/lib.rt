@@ -1,4 +1,6 @@
 // Sequence numbers and fragment numbers, kept apart; and the numbers that calls return, in the order in which they apply.
+#![tactic(auto)]
+
 pub mod answer;
 pub mod answers;
 pub mod arith;

@@ -4,7 +4,7 @@ ghost use Rattle.std.specs.Int.Signed.{lt_z};
 ghost use Rattle.numbers.specs.Number.{Ranked, in_range, is_sample, number_at, negative, past_bits};
 
 #[repr(C)]
-#[derive(Drop)]
+#[derive(Clone, Copy)]
 pub struct SequenceNumber(pub i64);
 
 impl SequenceNumber {

@@ -2,14 +2,14 @@
 use crate::line::{after, put, wide};
 
 // Where the line that is being read begins, and where its next number goes.
-#[derive(Drop)]
+#[derive(Clone, Copy)]
 struct Place {
     start: usize,
     next: usize,
 }
 
 // A number that is being read.
-#[derive(Drop)]
+#[derive(Clone, Copy)]
 struct Token {
     started: bool,
     hex: bool,

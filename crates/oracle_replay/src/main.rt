@@ -4,6 +4,8 @@
 // pseudo-random numbers, each with all that the crate showed after it. `write_replay` (host/runs) made the calls on the crate and
 // wrote the list; host/check holds the committed list to what it writes today. Here each call is made on the library, and what the
 // library then shows is compared with the list: a line for each reader and each writer, and the first call that differs, if one does.
+#![tactic(auto)]
+
 ghost use Rattle.std.specs.Prelude.{◌≡◌, length};
 
 mod input;

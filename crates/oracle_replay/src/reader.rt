@@ -7,14 +7,14 @@ use rtps_reader_proxy::ReaderProxy;
 use rtps_reader_proxy::proxy::Changed;
 
 // A call that was made: the head after it, and where the line tells what the crate showed.
-#[derive(Drop)]
+#[derive(Clone, Copy)]
 struct Made {
     head: ReaderProxy,
     at: usize,
 }
 
 // How many calls of a block, from the first on, were as the crate's, and where the next block begins.
-#[derive(Drop)]
+#[derive(Clone, Copy)]
 pub struct Replayed {
     pub same: u64,
     pub next: usize,

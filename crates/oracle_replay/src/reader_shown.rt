@@ -5,7 +5,7 @@ use numbers::{Answer, Cursor, FragmentCursor, NextNumber};
 use rtps_reader_proxy::ReaderProxy;
 
 // A walk through the unsent numbers, or the pending gap, beside the line.
-#[derive(Drop)]
+#[derive(Clone, Copy)]
 struct Walk {
     at: usize,
     from: u64,

@@ -7,7 +7,7 @@ use reader_list::AckedFrontier;
 use writer_send_buffer::{Admitted, Kind, Limits, Numbered, Told, Woken, WriterSendBuffer};
 
 // A call that was made: the record after it, and where the line tells what the crate showed.
-#[derive(Drop)]
+#[derive(Clone, Copy)]
 struct Made {
     flow: WriterSendBuffer,
     at: usize,

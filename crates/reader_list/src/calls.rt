@@ -14,7 +14,7 @@ use numbers::{Answer, SequenceNumber};
 
 // A match: the reader's id, whether it is reliable, and its cap of unsent numbers.
 #[repr(C)]
-#[derive(Drop)]
+#[derive(Clone, Copy)]
 pub struct Match {
     pub id: u64,
     pub reliable: bool,
@@ -27,7 +27,7 @@ impl Match {
 
 // A reader's id, and the first number that it has not acknowledged.
 #[repr(C)]
-#[derive(Drop)]
+#[derive(Clone, Copy)]
 pub struct Acked {
     pub id: u64,
     pub acked: SequenceNumber,
@@ -35,7 +35,7 @@ pub struct Acked {
 
 // Where a reader stands.
 #[repr(C)]
-#[derive(Drop)]
+#[derive(Clone, Copy)]
 pub struct Found {
     pub answer: Answer,
     pub place: usize,
@@ -43,7 +43,7 @@ pub struct Found {
 }
 
 #[repr(C)]
-#[derive(Drop)]
+#[derive(Clone, Copy)]
 pub struct Front {
     pub answer: Answer,
     pub frontier: AckedFrontier,

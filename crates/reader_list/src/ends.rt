@@ -10,7 +10,7 @@ use crate::walk::{Ask, Seen, begin, free_slot, walk_coherent};
 use numbers::{Answer, SequenceNumber};
 
 // An answer, and the head to store at a place; past the end, nothing is stored.
-#[derive(Drop)]
+#[derive(Clone, Copy)]
 pub struct Put {
     pub answer: Answer,
     pub at: usize,

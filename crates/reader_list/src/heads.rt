@@ -7,7 +7,7 @@ use numbers::arith::larger;
 
 // A free slot is all zeros: its id is 0.
 #[repr(C)]
-#[derive(Drop)]
+#[derive(Clone, Copy)]
 pub struct ReaderHead {
     pub id: u64,
     pub reliable: bool,
@@ -16,7 +16,7 @@ pub struct ReaderHead {
 
 // The acknowledgement frontier: absent, or a number.
 #[repr(C)]
-#[derive(Drop)]
+#[derive(Clone, Copy)]
 pub struct AckedFrontier {
     pub present: bool,
     pub acked: SequenceNumber,

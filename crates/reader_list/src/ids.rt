@@ -8,14 +8,14 @@ ghost use Rattle.reader_list.specs.Alone.{alone_from, sought_for, sought_on, alo
 use crate::heads::ReaderHead;
 
 // An id, and whether a slot has it.
-#[derive(Drop)]
+#[derive(Clone, Copy)]
 pub struct Sought {
     pub id: u64,
     pub found: bool,
 }
 
 // The low bits of the ids so far, one bit each; whether the last one, if it is a reader's, had its bit there before; and whether each stands alone.
-#[derive(Drop)]
+#[derive(Clone, Copy)]
 pub struct Met {
     pub low: u64,
     pub again: bool,

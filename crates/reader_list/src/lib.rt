@@ -1,4 +1,6 @@
 // The readers of a writer, side by side in one lent list.
+#![tactic(auto)]
+
 pub mod ahead;
 pub mod arrays;
 pub mod calls;

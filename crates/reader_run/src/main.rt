@@ -1,4 +1,6 @@
 // Document 01's examples of the reader record, and its edges, run: a line for each, ok or not.
+#![tactic(auto)]
+
 use libc::STDOUT_FILENO;
 use number_sets::{FragmentNumberSet, SequenceNumberSet};
 use numbers::{FragmentCursor, FragmentNumber, SequenceNumber};

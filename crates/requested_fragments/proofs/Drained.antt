@@ -26,6 +26,13 @@ first-gone f fs g = rw (eq-eqb f f refl) (low-without f (suc f) fs (omega arith)
 abbrev all : List Entry → DrainRun
 all es = record { offered = all_asked es; left = [] }
 
+-- one turn, where a fragment is there
+turn : (k : ℕ) (es : List Entry) (n f : ℕ) → next_sample es ≡ n → next_fragment 1 es ≡ f → eqb f 0 ≡ false
+    → turns (suc k) es ≡ offering (record { sample = n; frag = f }) (turns k (sent n f es))
+turn k es n f a b z =
+    subst (λ (p : ℕ). turns (suc k) es ≡ offering (record { sample = n; frag = p }) (turns k (sent n p es))) b
+    (subst (λ (m : ℕ). turns (suc k) es ≡ offering (record { sample = m; frag = next_fragment 1 es }) (turns k (sent m (next_fragment 1 es) es))) a (rw (ap (λ (x : ℕ). eqb x 0) b ∙ z) refl))
+
 -- one entry, fragment by fragment
 entry : (fs : List ℕ) (k n : ℕ) (es : List Entry) → From 1 fs → empty fs ≡ false → length (pieces_of n fs ++ all_asked es) ≤ k
     → ((j : ℕ) → length (all_asked es) ≤ j → turns j es ≡ all es) → turns k (record { sample = n; frags = fs } ∷ es) ≡ all (record { sample = n; frags = fs } ∷ es)
@@ -38,11 +45,14 @@ entry (f ∷ []) (suc k) n es g z h r =
     let w : eqb f f ≡ true = eq-eqb f f refl in
     rw (a, b, d, w) (ap (offering (record { sample = n; frag = f })) (r k (omega arith)))
 entry (f ∷ (x ∷ xs)) (suc k) n es g z h r =
-    let a : leb 1 f ≡ true = le-leb 1 f g.0 in
+    let held : List Entry = record { sample = n; frags = f ∷ (x ∷ xs) } ∷ es in
+    let a : next_fragment 1 held ≡ f = rw (le-leb 1 f g.0) refl in
     let b : eqb f 0 ≡ false = ne_eqb f 0 (λ (y : f ≡ 0). omega (arith, g.0)) in
     let d : eqb n n ≡ true = eq-eqb n n refl in
     let w : without f (f ∷ (x ∷ xs)) ≡ x ∷ xs = first-gone f (x ∷ xs) g in
-    rw (a, b, d, w) (ap (offering (record { sample = n; frag = f })) (entry (x ∷ xs) k n es (From_weak 1 (suc f) (x ∷ xs) (omega arith) g.1) refl (omega arith) r))
+    let s : sent n f held ≡ record { sample = n; frags = x ∷ xs } ∷ es = rw (d, w) refl in
+    turn k held n f refl a b
+        ∙ ap (offering (record { sample = n; frag = f })) (ap (turns k) s ∙ entry (x ∷ xs) k n es (From_weak 1 (suc f) (x ∷ xs) (omega arith) g.1) refl (omega arith) r)
 
 -- with as many turns as fragments are asked for, or more
 pub drained : (k s : ℕ) (es : List Entry) → EntriesCoherent s es → length (all_asked es) ≤ k → turns k es ≡ record { offered = all_asked es; left = [] }

@@ -13,7 +13,7 @@ use numbers::FragmentNumber;
 pub const MOST_SAMPLES: usize = 16;
 
 // A fragment of a sample, unless there is none.
-#[derive(Drop)]
+#[derive(Clone, Copy)]
 pub struct NextPiece {
     pub none: bool,
     pub sample: u64,

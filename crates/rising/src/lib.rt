@@ -1,3 +1,5 @@
 // Rising numbers in lent room.
+#![tactic(auto)]
+
 pub mod room;
 pub mod run;

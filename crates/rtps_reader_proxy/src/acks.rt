@@ -13,7 +13,7 @@ use numbers::{Answer, SequenceNumber, arith};
 use rising::room;
 
 #[repr(C)]
-#[derive(Drop)]
+#[derive(Clone, Copy)]
 pub struct AckNacked {
     pub answer: Answer,
     pub left_out: usize,

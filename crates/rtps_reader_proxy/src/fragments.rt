@@ -16,7 +16,7 @@ use rising::room;
 
 // A fragment of a sample, and the cursor past it.
 #[repr(C)]
-#[derive(Drop)]
+#[derive(Clone, Copy)]
 pub struct NextFragRequested {
     pub answer: Answer,
     pub sample: SequenceNumber,
@@ -26,7 +26,7 @@ pub struct NextFragRequested {
 
 // A yes or no.
 #[repr(C)]
-#[derive(Drop)]
+#[derive(Clone, Copy)]
 pub struct Told {
     pub answer: Answer,
     pub yes: bool,

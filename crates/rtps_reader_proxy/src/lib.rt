@@ -1,4 +1,6 @@
 // One reader as the writer keeps it: a small proxy by value, its rooms lent.
+#![tactic(auto)]
+
 pub mod acks;
 pub mod fragments;
 pub mod gaps;

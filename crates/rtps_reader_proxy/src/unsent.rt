@@ -13,7 +13,7 @@ use numbers::{Answer, Cursor, NextNumber, SequenceNumber, arith};
 use rising::{room, run};
 
 #[repr(C)]
-#[derive(Drop)]
+#[derive(Clone, Copy)]
 pub struct Taken {
     pub answer: Answer,
     pub count: usize,

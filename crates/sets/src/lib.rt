@@ -1,1 +1,2 @@
 // The vocabulary of sets: definitions in specs/, their laws in proofs/. It has no code.
+#![tactic(auto)]

@@ -1,4 +1,6 @@
 // Document 01's examples of sets, and sets at the edges of the numbers, run: a line for each, ok or not.
+#![tactic(auto)]
+
 use libc::STDOUT_FILENO;
 use number_sets::{FragmentNumberSet, SequenceNumberSet};
 use numbers::{Cursor, FragmentCursor, FragmentNumber, SequenceNumber};

@@ -1,4 +1,6 @@
 // The trace program: lines from standard input, one answer line for each on standard output. With --explain the answers are in words.
+#![tactic(auto)]
+
 ghost use Rattle.std.specs.Prelude.{◌≡◌, ◌≤◌, length};
 
 use libc::{STDERR_FILENO, STDIN_FILENO, STDOUT_FILENO};
@@ -8,7 +10,7 @@ use trace_words::put_explained;
 
 // What goes on from turn to turn: how the answering stands, how many bytes the piece has, whether there may be more to read, and whether the
 // answers couldn't be written.
-#[derive(Drop)]
+#[derive(Clone, Copy)]
 struct Run {
     answering: Answering,
     bytes: usize,
@@ -17,7 +19,7 @@ struct Run {
 }
 
 // How many bytes the next piece has, and whether there may be more to read.
-#[derive(Drop)]
+#[derive(Clone, Copy)]
 struct Filled {
     bytes: usize,
     reading: bool,

@@ -11,7 +11,7 @@ use trace_text::{Cut, take_line};
 
 // How the answering stands: what the last line was answered and left, how far the piece was taken and how many bytes of the line have come,
 // the lines answered, and how far the room for answers is filled.
-#[derive(Drop)]
+#[derive(Clone, Copy)]
 pub struct Answering {
     pub followed: Followed,
     pub cut: Cut,

@@ -1,4 +1,6 @@
 // A line of a trace answered: what it is answered and leaves, as far as it was held, and the text that says so.
+#![tactic(auto)]
+
 ghost use Rattle.std.specs.Prelude.{◌≡◌};
 ghost use Rattle.numbers.specs.Promise.{Gives1, Gives3};
 ghost use Rattle.trace_text.specs.Answers.{put_of};

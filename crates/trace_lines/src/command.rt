@@ -7,7 +7,7 @@ ghost use Rattle.trace_lines.specs.Lines.{sent_said, frag_said, evict_said, plai
 use crate::Place;
 use crate::set::clear;
 
-#[derive(Drop)]
+#[derive(Clone, Copy)]
 pub enum Command {
     New {
         window: u64,

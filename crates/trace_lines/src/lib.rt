@@ -1,5 +1,7 @@
 // The lines of a trace: one line in, the one command that it says out.
 // Here a place in a line, by value, with the words that stand there: keys and numbers. Once a place is not ok it stays so.
+#![tactic(auto)]
+
 ghost use Rattle.std.specs.Prelude.{◌≡◌, true, ◌-◌};
 ghost use Rattle.trace_lines.specs.Words.{is_digit, rest_of, after_key, not_anumber, number_to, NumberRead, line_ended, pair_of, two};
 
@@ -8,20 +10,20 @@ mod set;
 
 pub use command::{Command, read_line};
 
-#[derive(Drop)]
+#[derive(Clone, Copy)]
 struct Place {
     at: usize,
     ok: bool,
 }
 
-#[derive(Drop)]
+#[derive(Clone, Copy)]
 struct Number {
     value: u64,
     next: Place,
 }
 
 // Two numbers, one after the other, and the place past them.
-#[derive(Drop)]
+#[derive(Clone, Copy)]
 struct Pair {
     first: u64,
     second: u64,

@@ -7,7 +7,7 @@ ghost use Rattle.trace_lines.specs.Sets.{Listing, set_in, set_said, listed_in};
 use crate::Place;
 
 // What a set came to: how many numbers stand at the start of the room.
-#[derive(Drop)]
+#[derive(Clone, Copy)]
 pub struct Listed {
     pub count: usize,
     pub ok: bool,

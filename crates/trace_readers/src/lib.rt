@@ -1,4 +1,6 @@
 // What a trace keeps, and the lines of its readers: what each is answered, and what is then kept.
+#![tactic(auto)]
+
 ghost use Rattle.std.specs.Prelude.{◌≡◌, ◌≤◌};
 ghost use Rattle.trace_readers.specs.Rooms.{unsent_at, gaps_at, words_at, samples_at};
 ghost use Rattle.trace_readers.specs.Requests.{is_first};

@@ -7,7 +7,7 @@ use reader_list::ReaderHead;
 use rtps_reader_proxy::ReaderProxy;
 use writer_send_buffer::{Kind, Limits, WriterSendBuffer};
 
-#[derive(Drop)]
+#[derive(Clone, Copy)]
 pub struct Trace {
     pub started: bool,
     pub flow: WriterSendBuffer,
@@ -17,7 +17,7 @@ pub struct Trace {
 }
 
 // What a line is answered, and what the trace then keeps.
-#[derive(Drop)]
+#[derive(Clone, Copy)]
 pub struct Followed {
     pub answer: Answer,
     pub trace: Trace,

@@ -1,4 +1,6 @@
 // The text around a trace: its input cut into lines, and its answers as lines.
+#![tactic(auto)]
+
 pub mod answer;
 pub mod lines;
 

@@ -4,7 +4,7 @@ ghost use Rattle.numbers.specs.Promise.{Gives1};
 ghost use Rattle.trace_text.specs.Cuts.{cut_of, held1};
 
 // How far a piece was taken, how many bytes of the line have come, and whether it has ended.
-#[derive(Drop)]
+#[derive(Clone, Copy)]
 pub struct Cut {
     pub at: usize,
     pub held: usize,

@@ -1,4 +1,6 @@
 // An answer in words, for people.
+#![tactic(auto)]
+
 pub mod explained;
 pub mod figures;
 pub mod meaning;

@@ -12,7 +12,7 @@ use numbers::{Answer, SequenceNumber};
 
 // The flow record. The payloads stand in a lent store beside it.
 #[repr(C)]
-#[derive(Drop)]
+#[derive(Clone, Copy)]
 pub struct WriterSendBuffer {
     pub last: SequenceNumber,
     pub first: SequenceNumber,
@@ -25,7 +25,7 @@ pub struct WriterSendBuffer {
 
 // An answer with a yes or no.
 #[repr(C)]
-#[derive(Drop)]
+#[derive(Clone, Copy)]
 pub struct Told {
     pub answer: Answer,
     pub yes: bool,
@@ -33,7 +33,7 @@ pub struct Told {
 
 // An answer with a sequence number.
 #[repr(C)]
-#[derive(Drop)]
+#[derive(Clone, Copy)]
 pub struct Numbered {
     pub answer: Answer,
     pub number: SequenceNumber,
@@ -41,14 +41,14 @@ pub struct Numbered {
 
 // An answer with the record as it then is.
 #[repr(C)]
-#[derive(Drop)]
+#[derive(Clone, Copy)]
 pub struct Moved {
     pub answer: Answer,
     pub flow: WriterSendBuffer,
 }
 
 // The record's numbers as natural numbers.
-#[derive(Drop)]
+#[derive(Clone, Copy)]
 pub struct Ranks {
     pub last: u64,
     pub first: u64,

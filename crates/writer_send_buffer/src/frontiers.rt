@@ -10,7 +10,7 @@ use reader_list::AckedFrontier;
 
 // Whether to wake who waits, with the record as it then is.
 #[repr(C)]
-#[derive(Drop)]
+#[derive(Clone, Copy)]
 pub struct Woken {
     pub told: Told,
     pub flow: WriterSendBuffer,

@@ -1,4 +1,6 @@
 // A writer's send buffer: the flow record and admission, and the retained samples in a lent store.
+#![tactic(auto)]
+
 mod at_most;
 mod flow;
 mod frontiers;

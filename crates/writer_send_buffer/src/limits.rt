@@ -5,7 +5,7 @@ ghost use Rattle.writer_send_buffer.specs.Flow.{allowed, limits_counted};
 use numbers::arith::larger;
 
 #[repr(C)]
-#[derive(Drop)]
+#[derive(Clone, Copy)]
 pub struct Kind {
     pub reliable: bool,
     pub builtin: bool,
@@ -13,7 +13,7 @@ pub struct Kind {
 }
 
 #[repr(C)]
-#[derive(Drop)]
+#[derive(Clone, Copy)]
 pub struct Limits {
     pub window: u64,
     pub backlog: u64,

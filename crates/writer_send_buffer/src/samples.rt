@@ -13,7 +13,7 @@ use numbers::{Answer, SequenceNumber};
 
 // What a write is answered, with the record as it then is.
 #[repr(C)]
-#[derive(Drop)]
+#[derive(Clone, Copy)]
 pub struct Admitted {
     pub numbered: Numbered,
     pub flow: WriterSendBuffer,
@@ -21,7 +21,7 @@ pub struct Admitted {
 
 // Where a sample lies in the store.
 #[repr(C)]
-#[derive(Drop)]
+#[derive(Clone, Copy)]
 pub struct Located {
     pub answer: Answer,
     pub start: usize,
@@ -29,7 +29,7 @@ pub struct Located {
 }
 
 // What a fetch is answered, with the bytes of the sample as a part of the lent store; none where the answer isn't 0.
-#[derive(Drop)]
+#[derive(Clone, Copy)]
 pub struct Fetched<'a> {
     pub answer: Answer,
     pub bytes: &'a [u8],

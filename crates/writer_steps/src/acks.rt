@@ -17,7 +17,7 @@ use writer_send_buffer::{Told, WriterSendBuffer};
 
 // The answer and the wake, the requests left out, and the reader's proxy as it then is.
 #[repr(C)]
-#[derive(Drop)]
+#[derive(Clone, Copy)]
 pub struct AckTold {
     pub told: Told,
     pub left_out: usize,
@@ -25,7 +25,7 @@ pub struct AckTold {
 }
 
 // The same with the slot to store, past the end for none, and the flow record as it then is.
-#[derive(Drop)]
+#[derive(Clone, Copy)]
 pub struct AckSettled {
     pub answered: AckTold,
     pub at: usize,

@@ -1,4 +1,6 @@
 // What a server runs: the steps of the writer, each of several calls under one answer.
+#![tactic(auto)]
+
 pub mod acks;
 pub mod frags;
 pub mod many;

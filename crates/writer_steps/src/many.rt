@@ -11,7 +11,7 @@ use writer_send_buffer::{Located, WriterSendBuffer};
 
 // How many numbers were sent, and the reader's proxy as it then is.
 #[repr(C)]
-#[derive(Drop)]
+#[derive(Clone, Copy)]
 pub struct SentMany {
     pub answer: Answer,
     pub count: usize,

@@ -10,7 +10,7 @@ use writer_send_buffer::WriterSendBuffer;
 
 // The number sent, whether as data (else as a gap), and the reader's proxy as it then is.
 #[repr(C)]
-#[derive(Drop)]
+#[derive(Clone, Copy)]
 pub struct Sent {
     pub answer: Answer,
     pub number: SequenceNumber,

@@ -9,7 +9,7 @@ use reader_list::{Front, ReaderHead};
 use writer_send_buffer::{Told, Woken, WriterSendBuffer};
 
 // The answer and the wake; the slot to store, past the end for none; the flow record as it then is.
-#[derive(Drop)]
+#[derive(Clone, Copy)]
 pub struct Settled {
     pub told: Told,
     pub at: usize,

@@ -14,7 +14,7 @@ use rtps_reader_proxy::ReaderProxy;
 use writer_send_buffer::{Told, WriterSendBuffer};
 
 // The answer and the wake, with the list and the flow record as they then are.
-#[derive(Drop)]
+#[derive(Clone, Copy)]
 pub struct Listed2 {
     pub told: Told,
     pub heads: [ReaderHead; 2],
@@ -22,7 +22,7 @@ pub struct Listed2 {
 }
 
 // The same of an ACKNACK.
-#[derive(Drop)]
+#[derive(Clone, Copy)]
 pub struct AckTaken2 {
     pub answered: AckTold,
     pub heads: [ReaderHead; 2],

@@ -10,7 +10,7 @@ use rtps_reader_proxy::ReaderProxy;
 use rtps_reader_proxy::proxy::room_for;
 
 // Whether the places up to this one are coherent, and its proxy.
-#[derive(Drop)]
+#[derive(Clone, Copy)]
 pub struct SeenReader {
     pub coherent: bool,
     pub proxy: ReaderProxy,

@@ -1,4 +1,6 @@
 // A write that tells every reader, in place: the readers' proxies side by side in one lent list, their unsent rooms side by side in one lent room.
+#![tactic(auto)]
+
 pub mod coherent;
 mod places;
 pub mod put;

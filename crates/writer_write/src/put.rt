@@ -10,7 +10,7 @@ use rtps_reader_proxy::proxy::last_of;
 use writer_send_buffer::Numbered;
 
 // What the write is answered, and a reader's proxy as it then is.
-#[derive(Drop)]
+#[derive(Clone, Copy)]
 pub struct ToldReader {
     pub numbered: Numbered,
     pub proxy: ReaderProxy,

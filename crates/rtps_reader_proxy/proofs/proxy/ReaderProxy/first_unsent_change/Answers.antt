@@ -1,0 +1,12 @@
+-- `first_unsent_change` meets its contract. Assumes nothing.
+use mathlib.Core.Path.{◌∙◌}
+use Rattle.numbers.specs.Cursor.{cursor_at}
+use Rattle.rtps_reader_proxy.proofs.UnsentCalls.{next-unsent}
+use Rattle.rtps_reader_proxy.proofs.proxy.ReaderProxy.first_unsent_change.Goals as goal
+
+
+pub returns : goal.returns
+returns c =
+    let args = c.args in
+    let first-from = c.first_from-n in
+    c.next_is.ensures ∙ next-unsent (cursor_at 0) args.self args.unsent.now first-from.result first-from.ensures
