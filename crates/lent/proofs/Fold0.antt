@@ -15,28 +15,25 @@ use lib.ListN.{length, get_or, drop as past}
 use lib.Dec.{T, ltb, ltb→lt, nltb→le, lit<}
 use lib.WfN.{lt-wf_rel}
 use seplogic.Ra.Ura.{Ura}
-use seplogic.Ra.TreeShare.{full_share}
-use mir.Syntax.{Name, Ty, Fn, Body, named, imm, w64, ty_bool, ty_ptr, ty_ref, deref, field, place, unsigned, copy, int, local, value_local, skip as skipᴹ, seq, assign, block, loop, cond, exit, call, return, rv_opd, op2, add, mul, lt, offset}
+use base.Fraction.{full_share}
+use mir.Syntax.{Callee, Fn, Body, named, w64, ty_bool, ty_ptr, place, copy, int, local, value_local, seq, assign, block, loop, call, return, rv_opd}
 use mir.Val.{Val, vint, vptr, bits}
 use base.Logic.{SProp, ent, emp, via, fst∗}
-use base.Fml.{GName, Lft, Share, ftrue, fat, froom, fdies, flft, fobor}
+use base.Fml.{GName, Lft, Share, ftrue, fat, froom, fdies, flft}
 use prog.Memory.{size}
 use prog.Wp.{Out, Env, after_seq, after_block, after_turn, Calls, Loops, Wp, at_return, WpFn, Tables}
 use types.Logic.{Logic}
-use contract.Monad.{fact}
 use types.Kit.{Item, ‵, ◌⊛◌, ⋆, runs, any_q, at_ret, Sq, ◌$◌, ◌∵◌, !, qed, by, move, keep, split, join, rewrite, fsplit, fjoin, suffices, frame, done}
 use types.Run.{look, look_raw, store, init, forget, stop, hop, fld, from, load, lit, of_opd, bin, and_then, no_more, assigns, assigns_last, land, first, skips, jumps, blocks, branches, returns, enter, alloc1, alloc0, params1, pass1, pass0, free1, free0, exec, Below, again, loops}
 use types.Part.{whole, sub, look_in}
-use types.Share.{arr_parts}
 use sound.WpLaws.{fm_of, WpFn-mono}
 use denote.Exit.{yes}
 use denote.RattleType.{owns}
 use denote.Laws.{Is, shows}
-use denote.Memory.{pointee, shares}
+use denote.Opens.{Shut}
 use denote.Ref.{Bor}
-use denote.Slice.{slice_ty, slice_val, ShrSlice, Room, shr_slice_vals, shr_slice_Tells}
+use denote.Slice.{slice_val, ShrSlice, Room, shr_slice_vals, shr_slice_Tells}
 use denote.Index.{place_is, row as elements, elem_out, elem_back, looks_slice, shuts_slice}
-use denote.Signature.{Signature, shr_slice_of}
 use denote.Steps.{owned, nothing}
 use denote.Triple.Entry.{on_entry}
 use denote.Triple.Spec.{Meets}
@@ -60,25 +57,27 @@ module _ (S C B Q : Cell) (F : List S.Den → C.Den) (begin : C.Den → B.Den) (
   stayed = (stay_none_slice (0 ∷ []) tt (slot S) yes, tt)
 
   -- the MIR. The locals: the result, list, c, acc, i, a number, the test, the place of `list[i]`, and what is read there
-  abbrev more : Name → Body
+  abbrev more : Callee → Body
   more = more_of S 3 4 5 6 7 8
 
-  abbrev turn : Name → Body
+  abbrev turn : Callee → Body
   turn = turn_of S 3 4 5 6 7 8
 
-  abbrev rest : Name → Body
+  abbrev rest : Callee → Body
   rest g = seq (call g (copy (place 3 []) ∷ []) (place 0 [])) return
 
-  abbrev function : Name → Name → Name → Name → Fn
+  abbrev function : Callee → Callee → Callee → Callee → Fn
   function g₀ g₁ g₂ g₃ = record {
     lifetimes = 1;
     outlives = [];
+    ty_params = [];
+    givens = 0;
     params = 1;
     locals = local Q.ty value_local ∷ local (list_ty S) value_local ∷ local C.ty value_local ∷ local B.ty value_local ∷ local word value_local ∷ local word value_local ∷ local ty_bool value_local ∷ local ty_ptr value_local ∷ local S.ty value_local ∷ [];
     body = seq (call g₀ (copy (place 1 []) ∷ []) (place 2 [])) (seq (call g₁ (copy (place 2 []) ∷ []) (place 3 [])) (seq (assign (place 4 []) (rv_opd (int w64 0))) (seq (block (loop (turn g₂))) (rest g₃))));
   }
 
-  module _ {M : Type 1} {𝓤 : Ura M} (𝓛 : Logic 𝓤) (𝓣 : Tables 𝓤 𝓛.H) (g₀ g₁ g₂ g₃ : Name) (known₀ : Triple 𝓤 (𝓣.C g₀) (Over0 𝓤 𝓛 S C F)) (known₁ : Triple 𝓤 (𝓣.C g₁) (By1 𝓤 𝓛 C B begin)) (known₂ : Triple 𝓤 (𝓣.C g₂) (By2 𝓤 𝓛 B S B step)) (known₃ : Triple 𝓤 (𝓣.C g₃) (By1 𝓤 𝓛 B Q end)) where
+  module _ {M : Type 1} {𝓤 : Ura M} (𝓛 : Logic 𝓤) (𝓣 : Tables 𝓤 𝓛.H) (g₀ g₁ g₂ g₃ : Callee) (known₀ : Triple 𝓤 (𝓣.C g₀) (Over0 𝓤 𝓛 S C F)) (known₁ : Triple 𝓤 (𝓣.C g₁) (By1 𝓤 𝓛 C B begin)) (known₂ : Triple 𝓤 (𝓣.C g₂) (By2 𝓤 𝓛 B S B step)) (known₃ : Triple 𝓤 (𝓣.C g₃) (By1 𝓤 𝓛 B Q end)) where
     open 𝓛 use {H}
 
     module _ (κ : Lft) (q : Share) (b o : ℕ) (γ : GName) (ys : List S.Den) (gn : Room (row S) (length ys)) where
@@ -126,7 +125,7 @@ module _ (S C B Q : Cell) (F : List S.Den → C.Den) (begin : C.Den → B.Den) (
 
         -- the share of the list, what shuts it, and the borrow; then the locals, the last first
         abbrev At : Upto → List (Item 𝓤)
-        At s = ‵ (elements (row S) q' ys b o) ∷ ‵ (fobor κ q ((arr_parts (shares (row S)) n).part q' ys b o)) ∷ ‵ ((ShrSlice (named 0) κ (row S)).own_val x.0 at.0)
+        At s = ‵ (elements (row S) q' ys b o) ∷ Shut 𝓛 κ q (elements (row S) q' ys b o) ∷ ‵ ((ShrSlice (named 0) κ (row S)).own_val x.0 at.0)
             ∷ ‵ (froom S.ty l₈ 0) ∷ ‵ (fdies S.ty l₈) ∷ ‵ (froom ty_ptr l₇ 0) ∷ ‵ (fdies ty_ptr l₇) ∷ ‵ (froom ty_bool l₆ 0) ∷ ‵ (fdies ty_bool l₆) ∷ ‵ (froom word l₅ 0) ∷ ‵ (fdies word l₅)
             ∷ ‵ (fat full_share word l₄ 0 (vint w64 s.0)) ∷ ‵ (fdies word l₄) ∷ ‵ (fat full_share B.ty l₃ 0 (B.val s.1.0)) ∷ ‵ (fdies B.ty l₃) ∷ ‵ (fat full_share C.ty l₂ 0 (C.val (F ys))) ∷ ‵ (fdies C.ty l₂)
             ∷ ‵ (fat full_share (list_ty S) l₁ 0 (slice_val (b, o) n)) ∷ ‵ (fdies (list_ty S) l₁) ∷ ‵ (froom Q.ty l₀ 0) ∷ ‵ (fdies Q.ty l₀) ∷ []
@@ -170,28 +169,29 @@ module _ (S C B Q : Cell) (F : List S.Den → C.Den) (begin : C.Den → B.Den) (
             next : T (ltb s.0 n) → Ok B (step s.1.0 elem) → Upto
             next less is = (s.0 + 1, (step s.1.0 elem, (omega (arith, less_than less), (is, one_more step d ys s.0 s.1.0 all (less_than less) s.1.1.1.1))))
 
-      walk : ent 𝓤 (on_entry 𝓛 ended.signature (κ, tt) (q, tt) x at) (WpFn 𝓤 H 𝓣.C 𝓣.Λ (function g₀ g₁ g₂ g₃) (slice_val (b, o) n ∷ []) Post)
-      walk =
-          qed 𝓛 ((‵ (flft κ q) ⊛ ‵ ftrue) ∷ ‵ (owns (ShrSlice (named 0) κ (row S) ∷ []) x at) ∷ []) ∵ split ! $ move ! (2 ∷ []) $ fsplit ! $
-          -- [list; the others'; κ; true]
-          enter ! 𝓣.C 𝓣.Λ (function g₀ g₁ g₂ g₃) (slice_val (b, o) n ∷ []) _ $
-          alloc1 ! (λ l₀. alloc1 ! (λ l₁. alloc1 ! (λ l₂. alloc1 ! (λ l₃. alloc1 ! (λ l₄. alloc1 ! (λ l₅. alloc1 ! (λ l₆. alloc1 ! (λ l₇. alloc1 ! (λ l₈. alloc0 ! $ params1 ! $ pass1 ! (init ! 14 refl (tt, (tt, (record { fits = gn.0 }, tt)))) $ pass0 ! $
-          move ! (20 ∷ 18 ∷ []) $ calls_on0 ! (fm_of 𝓤 H 𝓛.laws 𝓣) S C F known₀ κ q x.0 (and_then ! (load ! (from ! (stop !)) (look ! 16 refl)) (no_more !)) (λ is_c.
-          -- [κ; list; the locals]
-          land ! (from ! (stop !)) (init ! 14 refl (C.typed 𝓛 (F ys) _ is_c).0) $
-          calls1 ! (fm_of 𝓤 H 𝓛.laws 𝓣) C B begin known₁ (F ys) is_c (and_then ! (load ! (from ! (stop !)) (look ! 15 refl)) (no_more !)) (λ is.
-          land ! (from ! (stop !)) (init ! 12 refl (B.typed 𝓛 (begin (F ys)) _ is).0) $
-          assigns ! (of_opd ! (lit ! tt)) (from ! (stop !)) (init ! 10 refl (tt, record { fits = lit< tt })) $
-          move ! (1 ∷ []) $ fsplit ! $ move ! (1 ∷ []) $ fsplit ! $ move ! (1 ∷ 3 ∷ []) $
-          looks_slice ! tt (row S) (Is (row S)) (shows 𝓛 (row S)) (λ y. S.val y ∷ []) S.tells (record { twice = S.twice 𝓛 }) ys b o (λ q'.
-          move ! (3 ∷ 2 ∷ []) $ fjoin ! $ move ! (3 ∷ 0 ∷ []) $ fjoin ! $
-          keep ! (1 ∷ 2 ∷ 0 ∷ 3 ∷ 4 ∷ 5 ∷ 6 ∷ 7 ∷ 8 ∷ 9 ∷ 10 ∷ 11 ∷ 12 ∷ 13 ∷ 14 ∷ 15 ∷ 16 ∷ 17 ∷ 18 ∷ 19 ∷ 20 ∷ []) $ first ! $ blocks ! $
-          loops ! 𝓣 Nearer Nearer_wf (At q' l₀ l₁ l₂ l₃ l₄ l₅ l₆ l₇ l₈) (turns q' l₀ l₁ l₂ l₃ l₄ l₅ l₆ l₇ l₈) (0, ((begin (F ys)), (zero-le, (is, refl))))))))))))))))
-
-    walks : Walks 𝓛 ended stayed (WpFn 𝓤 H 𝓣.C 𝓣.Λ (function g₀ g₁ g₂ g₃)) (clauses 𝓤)
-    walks = walked 𝓛 ended stayed (clauses 𝓤) (WpFn 𝓤 H 𝓣.C 𝓣.Λ (function g₀ g₁ g₂ g₃)) (λ κs. (shr_slice_vals, tt)) (λ κs. (shr_slice_Tells (named 0) κs.0 (row S), tt))
-        (λ κs qs bounds a g are. via 𝓤 _ (fst∗ 𝓤 _ (emp 𝓤)) (walk κs.0 qs.0 a.0.ref_ptr.0 a.0.ref_ptr.1 0 a.0.now are.0.0.1))
-
+    -- the walk stands within the law: where it does not fit the MIR, it is the law that falls
     pub meets : Meets 𝓛 ended.signature (WpFn 𝓤 H 𝓣.C 𝓣.Λ (function g₀ g₁ g₂ g₃)) (closing 𝓛 ended (clauses 𝓤))
     meets = walk_Meets 𝓛 ended stayed (Goes-none_slice 𝓛 1 (0 ∷ []) tt (slot S) yes, tt) (clauses 𝓤)
         (WpFn 𝓤 H 𝓣.C 𝓣.Λ (function g₀ g₁ g₂ g₃)) (WpFn-mono 𝓤 H 𝓛.laws 𝓣 (function g₀ g₁ g₂ g₃)) walks
+      where
+        walk : (κ : Lft) (q : Share) (b o : ℕ) (γ : GName) (ys : List S.Den) (gn : Room (row S) (length ys)) → ent 𝓤 (on_entry 𝓛 ended.signature (κ, tt) (q, tt) (x κ q b o γ ys gn) (at κ q b o γ ys gn)) (WpFn 𝓤 H 𝓣.C 𝓣.Λ (function g₀ g₁ g₂ g₃) (slice_val (b, o) (length ys) ∷ []) (Post κ q b o γ ys gn))
+        walk κ q b o γ ys gn =
+            qed 𝓛 ((‵ (flft κ q) ⊛ ‵ ftrue) ∷ ‵ (owns (ShrSlice (named 0) κ (row S) ∷ []) (x κ q b o γ ys gn) (at κ q b o γ ys gn)) ∷ []) ∵ split ! $ move ! (2 ∷ []) $ fsplit ! $
+            -- [list; the others'; κ; true]
+            enter ! 𝓣.C 𝓣.Λ (function g₀ g₁ g₂ g₃) (slice_val (b, o) (length ys) ∷ []) _ $
+            alloc1 ! (λ l₀. alloc1 ! (λ l₁. alloc1 ! (λ l₂. alloc1 ! (λ l₃. alloc1 ! (λ l₄. alloc1 ! (λ l₅. alloc1 ! (λ l₆. alloc1 ! (λ l₇. alloc1 ! (λ l₈. alloc0 ! $ params1 ! $ pass1 ! (init ! 14 refl (tt, (tt, (record { fits = gn.0 }, tt)))) $ pass0 ! $
+            move ! (20 ∷ 18 ∷ []) $ calls_on0 ! (fm_of 𝓤 H 𝓛.laws 𝓣) S C F known₀ κ q (x κ q b o γ ys gn).0 (and_then ! (load ! (from ! (stop !)) (look ! 16 refl)) (no_more !)) (λ is_c.
+            -- [κ; list; the locals]
+            land ! (from ! (stop !)) (init ! 14 refl (C.typed 𝓛 (F ys) _ is_c).0) $
+            calls1 ! (fm_of 𝓤 H 𝓛.laws 𝓣) C B begin known₁ (F ys) is_c (and_then ! (load ! (from ! (stop !)) (look ! 15 refl)) (no_more !)) (λ is.
+            land ! (from ! (stop !)) (init ! 12 refl (B.typed 𝓛 (begin (F ys)) _ is).0) $
+            assigns ! (of_opd ! (lit ! tt)) (from ! (stop !)) (init ! 10 refl (tt, record { fits = lit< tt })) $
+            move ! (1 ∷ []) $ fsplit ! $ move ! (1 ∷ 2 ∷ []) $
+            looks_slice ! tt (row S) (S.copied 𝓛) ys b o (λ q'.
+            move ! (3 ∷ 2 ∷ []) $ fjoin ! $
+            keep ! (1 ∷ 2 ∷ 0 ∷ 3 ∷ 4 ∷ 5 ∷ 6 ∷ 7 ∷ 8 ∷ 9 ∷ 10 ∷ 11 ∷ 12 ∷ 13 ∷ 14 ∷ 15 ∷ 16 ∷ 17 ∷ 18 ∷ 19 ∷ 20 ∷ []) $ first ! $ blocks ! $
+            loops ! 𝓣 (Nearer κ q b o γ ys gn) (Nearer_wf κ q b o γ ys gn) (At κ q b o γ ys gn q' l₀ l₁ l₂ l₃ l₄ l₅ l₆ l₇ l₈) (turns κ q b o γ ys gn q' l₀ l₁ l₂ l₃ l₄ l₅ l₆ l₇ l₈) (0, ((begin (F ys)), (zero-le, (is, refl))))))))))))))))
+
+        walks : Walks 𝓛 ended stayed (WpFn 𝓤 H 𝓣.C 𝓣.Λ (function g₀ g₁ g₂ g₃)) (clauses 𝓤)
+        walks = walked 𝓛 ended stayed (clauses 𝓤) (WpFn 𝓤 H 𝓣.C 𝓣.Λ (function g₀ g₁ g₂ g₃)) (λ κs. (shr_slice_vals, tt)) (λ κs. (shr_slice_Tells (named 0) κs.0 (row S), tt))
+            (λ κs qs bounds a g are. via 𝓤 _ (fst∗ 𝓤 _ (emp 𝓤)) (walk κs.0 qs.0 a.0.ref_ptr.0 a.0.ref_ptr.1 0 a.0.now are.0.0.1))

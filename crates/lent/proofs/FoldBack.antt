@@ -18,15 +18,14 @@ use lib.ListN.{length, get_or, drop as past, drop_of_length-le}
 use lib.Dec.{T, ltb, ltb→lt, nltb→le}
 use lib.WfN.{lt-wf_rel}
 use seplogic.Ra.Ura.{Ura}
-use seplogic.Ra.TreeShare.{full_share}
-use mir.Syntax.{Name, Ty, Fn, Body, named, imm, w64, ty_bool, ty_ptr, ty_ref, deref, field, place, unsigned, copy, int, local, value_local, skip as skipᴹ, seq, assign, block, loop, cond, exit, call, return, rv_opd, op2, sub as subᴹ, mul, lt, offset}
+use base.Fraction.{full_share}
+use mir.Syntax.{Callee, Fn, Body, named, w64, ty_bool, ty_ptr, deref, field, place, unsigned, copy, int, local, value_local, skip as skipᴹ, seq, assign, block, loop, cond, exit, call, return, rv_opd, op2, sub as subᴹ, mul, lt, offset}
 use mir.Val.{Val, vint, vptr, bits}
 use base.Logic.{SProp, ent, emp, via, fst∗}
 use base.Fml.{GName, Lft, Share, ftrue, fat, froom, fdies, flft}
 use prog.Memory.{size}
 use prog.Wp.{Out, Env, after_seq, after_block, after_turn, Calls, Loops, Wp, at_return, WpFn, Tables}
 use types.Logic.{Logic}
-use contract.Monad.{fact}
 use types.Kit.{Item, ‵, ◌⊛◌, ⋆, runs, any_q, at_ret, Sq, ◌$◌, ◌∵◌, !, qed, by, move, keep, split, join, rewrite, fsplit, fjoin, suffices, frame, done}
 use types.Run.{look, look_raw, store, init, forget, stop, hop, fld, from, load, lit, of_opd, bin, and_then, no_more, assigns, assigns_last, land, first, skips, jumps, blocks, branches, returns, enter, alloc1, alloc0, params1, pass1, pass0, free1, free0, exec, Below, again, loops}
 use types.Part.{whole, sub, look_in}
@@ -34,11 +33,9 @@ use sound.WpLaws.{fm_of, WpFn-mono}
 use denote.Exit.{yes}
 use denote.RattleType.{owns}
 use denote.Laws.{Is, shows}
-use denote.Memory.{pointee}
 use denote.Ref.{Bor}
-use denote.Slice.{slice_ty, slice_val, ShrSlice, Room, shr_slice_vals, shr_slice_Tells}
+use denote.Slice.{slice_val, ShrSlice, Room, shr_slice_vals, shr_slice_Tells}
 use denote.Index.{place_is, elem_out, elem_back, looks_slice, shuts_slice}
-use denote.Signature.{Signature, shr_slice_of}
 use denote.Steps.{owned, nothing}
 use denote.Triple.Entry.{on_entry}
 use denote.Triple.Spec.{Meets}
@@ -63,7 +60,7 @@ module _ (S C B Q : Cell) (F : List S.Den → ℕ → S.Den → C.Den) (begin : 
   abbrev stayed : Stays ended.signature.params ended.kept
   stayed = (stay_none_slice (0 ∷ []) tt (slot S) yes, tt)
 
-  module _ (g₁ g₂ g₃ g₄ g₅ g₆ : Name) where
+  module _ (g₁ g₂ g₃ g₄ g₅ g₆ : Callee) where
     -- the MIR. The locals: the result, list, acc, i, at, h, from, c, the test, a number, the place of `list[at]`, and what is read there
     abbrev more : Body
     more = seq (assign (place 4 []) (op2 (subᴹ unsigned) (copy (place 3 [])) (int w64 1)))
@@ -88,6 +85,8 @@ module _ (S C B Q : Cell) (F : List S.Den → ℕ → S.Den → C.Den) (begin : 
     function = record {
       lifetimes = 1;
       outlives = [];
+      ty_params = [];
+      givens = 0;
       params = 1;
       locals = local Q.ty value_local ∷ local (list_ty S) value_local ∷ local B.ty value_local ∷ local word value_local ∷ local word value_local ∷ local S.ty value_local ∷ local word value_local ∷ local C.ty value_local ∷ local ty_bool value_local ∷ local word value_local ∷ local ty_ptr value_local ∷ local S.ty value_local ∷ [];
       body = seq (call g₁ [] (place 2 [])) (seq (assign (place 3 []) (rv_opd (copy (place 1 (field 1 ∷ []))))) (seq (block (loop turn)) rest));
@@ -157,13 +156,13 @@ module _ (S C B Q : Cell) (F : List S.Den → ℕ → S.Den → C.Den) (begin : 
               assigns ! (bin ! (load ! (from ! (stop !)) (look ! 16 refl)) (lit ! small) (record { fits = place-fits (size S.ty) (inside less) gn.1 })) (from ! (stop !)) (init ! 6 refl (tt, record { fits = place-fits (size S.ty) (inside less) gn.1 })) $
               assigns ! (bin ! (load ! (from ! (fld ! refl (stop !))) (look_in ! 22 (sub ! 0 refl (whole !)))) (load ! (from ! (stop !)) (look ! 6 refl)) tt) (from ! (stop !)) (init ! 4 refl (tt, tt)) $
               rewrite ! 4 (λ (at : ℕ). ‵ (fat full_share ty_ptr m₀ 0 (vptr b at))) (sym (place_is (size S.ty) o (s.0 - 1))) refl $
-              move ! (1 ∷ []) $ fsplit ! $ move ! (1 ∷ []) $ fsplit ! $ move ! (1 ∷ 3 ∷ []) $
-              looks_slice ! tt (row S) (Is (row S)) (shows 𝓛 (row S)) (λ y. S.val y ∷ []) S.tells (record { twice = S.twice 𝓛 }) ys b o (λ q'.
+              move ! (1 ∷ []) $ fsplit ! $ move ! (1 ∷ 2 ∷ []) $
+              looks_slice ! tt (row S) (S.copied 𝓛) ys b o (λ q'.
               elem_out ! (row S) (Is (row S)) (shows 𝓛 (row S)) (λ y. S.val y ∷ []) S.tells q' ys (s.0 - 1) d b o (inside less) (λ ok.
               -- [list[at]; what it owns; the others; what shuts; the parts of the borrow; the locals]
-              assigns ! (of_opd ! (load ! (from ! (hop ! (look ! 9 refl) (stop !))) (look_raw ! 0 refl))) (from ! (stop !)) (init ! 7 refl (S.typed 𝓛 elem _ ok).0) $
+              assigns ! (of_opd ! (load ! (from ! (hop ! (look ! 8 refl) (stop !))) (look_raw ! 0 refl))) (from ! (stop !)) (init ! 6 refl (S.typed 𝓛 elem _ ok).0) $
               elem_back ! (row S) q' ys (s.0 - 1) d (S.val elem ∷ []) b o (inside less) $
-              shuts_slice ! tt (row S) q' ys b o $ move ! (2 ∷ 1 ∷ []) $ fjoin ! $ move ! (2 ∷ 0 ∷ []) $ fjoin ! $ move ! (1 ∷ []) $
+              shuts_slice ! tt (row S) q' ys b o $ move ! (2 ∷ 1 ∷ []) $ fjoin ! $ move ! (1 ∷ []) $
               -- [the token; the borrow; the locals]
               assigns ! (of_opd ! (load ! (from ! (stop !)) (look ! 2 refl))) (from ! (stop !)) (init ! 14 refl (S.typed 𝓛 elem _ ok).0) $
               calls2 ! (fm_of 𝓤 H 𝓛.laws 𝓣) B S B meet known₂ s.1.0 elem s.1.1.1.0 ok (and_then ! (load ! (from ! (stop !)) (look ! 21 refl)) (and_then ! (load ! (from ! (stop !)) (look ! 15 refl)) (no_more !))) (λ is₂.

@@ -14,28 +14,25 @@ use lib.ListN.{length, get_or, drop as past}
 use lib.Dec.{T, ltb, ltb→lt, nltb→le}
 use lib.WfN.{lt-wf_rel}
 use seplogic.Ra.Ura.{Ura}
-use seplogic.Ra.TreeShare.{full_share}
-use mir.Syntax.{Name, Ty, Fn, Body, named, imm, w64, ty_bool, ty_ptr, ty_ref, deref, field, place, unsigned, copy, int, local, value_local, skip as skipᴹ, seq, assign, block, loop, cond, exit, call, return, rv_opd, op2, add, mul, lt, offset}
+use base.Fraction.{full_share}
+use mir.Syntax.{Callee, Fn, Body, named, w64, ty_bool, ty_ptr, place, copy, local, value_local, seq, assign, block, loop, call, return, rv_opd}
 use mir.Val.{Val, vint, vptr, bits}
 use base.Logic.{SProp, ent, emp, via, fst∗}
-use base.Fml.{GName, Lft, Share, ftrue, fat, froom, fdies, flft, fobor}
+use base.Fml.{GName, Lft, Share, ftrue, fat, froom, fdies, flft}
 use prog.Memory.{size}
 use prog.Wp.{Out, Env, after_seq, after_block, after_turn, Calls, Loops, Wp, at_return, WpFn, Tables}
 use types.Logic.{Logic}
-use contract.Monad.{fact}
 use types.Kit.{Item, ‵, ◌⊛◌, ⋆, runs, any_q, at_ret, Sq, ◌$◌, ◌∵◌, !, qed, by, move, keep, split, join, rewrite, fsplit, fjoin, suffices, frame, done}
 use types.Run.{look, look_raw, store, init, forget, stop, hop, fld, from, load, lit, of_opd, bin, and_then, no_more, assigns, assigns_last, land, first, skips, jumps, blocks, branches, returns, enter, alloc1, alloc0, params1, pass1, pass0, free1, free0, exec, Below, again, loops}
 use types.Part.{whole, sub, look_in}
-use types.Share.{arr_parts}
 use sound.WpLaws.{fm_of, WpFn-mono}
 use denote.Exit.{yes}
 use denote.RattleType.{owns}
 use denote.Laws.{Is, shows}
-use denote.Memory.{pointee, shares}
+use denote.Opens.{Shut}
 use denote.Ref.{Bor}
-use denote.Slice.{slice_ty, slice_val, ShrSlice, Room, shr_slice_vals, shr_slice_Tells}
+use denote.Slice.{slice_val, ShrSlice, Room, shr_slice_vals, shr_slice_Tells}
 use denote.Index.{place_is, row as elements, elem_out, elem_back, looks_slice, shuts_slice}
-use denote.Signature.{Signature, shr_slice_of}
 use denote.Steps.{owned, nothing}
 use denote.Triple.Entry.{on_entry}
 use denote.Triple.Spec.{Meets}
@@ -59,25 +56,27 @@ module _ (S P B Q : Cell) (begin : P.Den → B.Den) (step : B.Den → S.Den → 
   stayed = (stay_none_slice (0 ∷ []) tt (slot S) yes, (stay_none (λ _. row (uint w64)) yes, (stay_none (λ _. row P) yes, tt)))
 
   -- the MIR. The locals: the result, list, from, p, acc, i, a number, the test, the place of `list[i]`, and what is read there
-  abbrev more : Name → Body
+  abbrev more : Callee → Body
   more = more_of S 4 5 6 7 8 9
 
-  abbrev turn : Name → Body
+  abbrev turn : Callee → Body
   turn = turn_of S 4 5 6 7 8 9
 
-  abbrev rest : Name → Body
+  abbrev rest : Callee → Body
   rest g = seq (call g (copy (place 4 []) ∷ []) (place 0 [])) return
 
-  abbrev function : Name → Name → Name → Fn
+  abbrev function : Callee → Callee → Callee → Fn
   function g₁ g₂ g₃ = record {
     lifetimes = 1;
     outlives = [];
+    ty_params = [];
+    givens = 0;
     params = 3;
     locals = local Q.ty value_local ∷ local (list_ty S) value_local ∷ local word value_local ∷ local P.ty value_local ∷ local B.ty value_local ∷ local word value_local ∷ local word value_local ∷ local ty_bool value_local ∷ local ty_ptr value_local ∷ local S.ty value_local ∷ [];
     body = seq (call g₁ (copy (place 3 []) ∷ []) (place 4 [])) (seq (assign (place 5 []) (rv_opd (copy (place 2 [])))) (seq (block (loop (turn g₂))) (rest g₃)));
   }
 
-  module _ {M : Type 1} {𝓤 : Ura M} (𝓛 : Logic 𝓤) (𝓣 : Tables 𝓤 𝓛.H) (g₁ g₂ g₃ : Name) (known₁ : Triple 𝓤 (𝓣.C g₁) (By1 𝓤 𝓛 P B begin)) (known₂ : Triple 𝓤 (𝓣.C g₂) (By2 𝓤 𝓛 B S B step)) (known₃ : Triple 𝓤 (𝓣.C g₃) (By1 𝓤 𝓛 B Q end)) where
+  module _ {M : Type 1} {𝓤 : Ura M} (𝓛 : Logic 𝓤) (𝓣 : Tables 𝓤 𝓛.H) (g₁ g₂ g₃ : Callee) (known₁ : Triple 𝓤 (𝓣.C g₁) (By1 𝓤 𝓛 P B begin)) (known₂ : Triple 𝓤 (𝓣.C g₂) (By2 𝓤 𝓛 B S B step)) (known₃ : Triple 𝓤 (𝓣.C g₃) (By1 𝓤 𝓛 B Q end)) where
     open 𝓛 use {H}
 
     module _ (κ : Lft) (q : Share) (b o : ℕ) (γ : GName) (ys : List S.Den) (gn : Room (row S) (length ys)) (from₀ : ℕ) (is-from : Ok (uint w64) from₀) (p : P.Den) (is-p : Ok P p) where
@@ -125,7 +124,7 @@ module _ (S P B Q : Cell) (begin : P.Den → B.Den) (step : B.Den → S.Den → 
 
         -- the share of the list, what shuts it, and the borrow; then the locals, the last first
         abbrev At : Upto → List (Item 𝓤)
-        At s = ‵ (elements (row S) q' ys b o) ∷ ‵ (fobor κ q ((arr_parts (shares (row S)) n).part q' ys b o)) ∷ ‵ ((ShrSlice (named 0) κ (row S)).own_val x.0 at.0)
+        At s = ‵ (elements (row S) q' ys b o) ∷ Shut 𝓛 κ q (elements (row S) q' ys b o) ∷ ‵ ((ShrSlice (named 0) κ (row S)).own_val x.0 at.0)
             ∷ ‵ (froom S.ty l₉ 0) ∷ ‵ (fdies S.ty l₉) ∷ ‵ (froom ty_ptr l₈ 0) ∷ ‵ (fdies ty_ptr l₈) ∷ ‵ (froom ty_bool l₇ 0) ∷ ‵ (fdies ty_bool l₇) ∷ ‵ (froom word l₆ 0) ∷ ‵ (fdies word l₆)
             ∷ ‵ (fat full_share word l₅ 0 (vint w64 s.0)) ∷ ‵ (fdies word l₅) ∷ ‵ (fat full_share B.ty l₄ 0 (B.val s.1.0)) ∷ ‵ (fdies B.ty l₄) ∷ ‵ (fat full_share P.ty l₃ 0 (P.val p)) ∷ ‵ (fdies P.ty l₃) ∷ ‵ (fat full_share word l₂ 0 (vint w64 from₀)) ∷ ‵ (fdies word l₂)
             ∷ ‵ (fat full_share (list_ty S) l₁ 0 (slice_val (b, o) n)) ∷ ‵ (fdies (list_ty S) l₁) ∷ ‵ (froom Q.ty l₀ 0) ∷ ‵ (fdies Q.ty l₀) ∷ []
@@ -176,9 +175,9 @@ module _ (S P B Q : Cell) (begin : P.Den → B.Den) (step : B.Den → S.Den → 
           calls1 ! (fm_of 𝓤 H 𝓛.laws 𝓣) P B begin known₁ p is-p (and_then ! (load ! (from ! (stop !)) (look ! 13 refl)) (no_more !)) (λ is.
           land ! (from ! (stop !)) (init ! 10 refl (B.typed 𝓛 (begin p) _ is).0) $
           assigns ! (of_opd ! (load ! (from ! (stop !)) (look ! 14 refl))) (from ! (stop !)) (init ! 8 refl ((uint w64).typed 𝓛 from₀ _ is-from).0) $
-          move ! (21 ∷ []) $ fsplit ! $ fsplit ! $ move ! (1 ∷ []) $ fsplit ! $ move ! (24 ∷ []) $ split ! $ move ! (3 ∷ 0 ∷ []) $
-          looks_slice ! tt (row S) (Is (row S)) (shows 𝓛 (row S)) (λ y. S.val y ∷ []) S.tells (record { twice = S.twice 𝓛 }) ys b o (λ q'.
-          move ! (4 ∷ 2 ∷ []) $ fjoin ! $ move ! (4 ∷ 0 ∷ []) $ fjoin ! $
+          move ! (21 ∷ []) $ fsplit ! $ fsplit ! $ move ! (23 ∷ []) $ split ! $ move ! (3 ∷ 0 ∷ []) $
+          looks_slice ! tt (row S) (S.copied 𝓛) ys b o (λ q'.
+          move ! (4 ∷ 2 ∷ []) $ fjoin ! $
           keep ! (1 ∷ 2 ∷ 0 ∷ 5 ∷ 6 ∷ 7 ∷ 8 ∷ 9 ∷ 10 ∷ 11 ∷ 12 ∷ 13 ∷ 14 ∷ 15 ∷ 16 ∷ 17 ∷ 18 ∷ 19 ∷ 20 ∷ 21 ∷ 22 ∷ 23 ∷ 24 ∷ []) $ first ! $ blocks ! $
           loops ! 𝓣 Nearer Nearer_wf (At q' l₀ l₁ l₂ l₃ l₄ l₅ l₆ l₇ l₈ l₉) (turns q' l₀ l₁ l₂ l₃ l₄ l₅ l₆ l₇ l₈ l₉) (from₀, ((begin p), (is, refl)))))))))))))))
 

@@ -8,8 +8,8 @@ use mathlib.Core.Path.{refl}
 use Prim.Native.Nat.{ℕ}
 use mathlib.Core.List.{List, [], ◌∷◌}
 use seplogic.Ra.Ura.{Ura}
-use seplogic.Ra.TreeShare.{full_share}
-use mir.Syntax.{Name, Ty, Fn, named, mut, ty_ref, deref, field, place, copy, local, value_local, seq, assign, call, return, rv_opd}
+use base.Fraction.{full_share}
+use mir.Syntax.{Callee, Ty, Fn, named, mut, ty_ref, deref, field, place, copy, local, value_local, seq, assign, call, return, rv_opd}
 use mir.Val.{Val, vptr}
 use base.Logic.{SProp, ent, sep, emp, via, fst∗}
 use base.Fml.{GName, Lft, Share, ftrue, flft, fobs, fbor}
@@ -51,10 +51,12 @@ module _ (T N R : Cell) (Mv : Moved R T) (F : T.Den → N.Den → Mv.Den) (o : T
   clauses 𝓤 κs a = record { ghost = Unit {0}; requires = λ _. emp 𝓤; ensures = λ _ r e. fact 𝓤 (Gives1 r e.0.now (o a.0.now a.1.0)) }
 
   -- the MIR of w: the result, f, n, m, and the copy of `*f`
-  abbrev wrapper : Name → Fn
+  abbrev wrapper : Callee → Fn
   wrapper g = record {
     lifetimes = 1;
     outlives = [];
+    ty_params = [];
+    givens = 0;
     params = 2;
     locals = local R.ty value_local ∷ local (ty_ref (named 0) mut (pointee T.written)) value_local ∷ local N.ty value_local ∷ local ty_m value_local ∷ local T.ty value_local ∷ [];
     body = seq (assign (place 4 []) (rv_opd (copy (place 1 (deref T.ty ∷ [])))))
@@ -95,7 +97,7 @@ module _ (T N R : Cell) (Mv : Moved R T) (F : T.Den → N.Den → Mv.Den) (o : T
             frame ! $ feq_i ! (List Val) (vptr b off ∷ []) (vptr b off ∷ []) refl $ fjoin3 ! $ nothing ! $ owned ! (row N) (Is (row N)) (N.makes 𝓛) n _ is-n $ fjoin ! $ move ! (1 ∷ 0 ∷ []) $ fjoin ! $
             owned ! (row R) (Is (row R)) (R.makes 𝓛) (Mv.ans m) _ ok $ move ! (1 ∷ 0 ∷ []) $ done !
 
-        module _ (g : Name) (C : Calls 𝓤 H) (Λ : Loops 𝓤 H) (fm : FmC 𝓤 H 𝓛.laws C) (known : Triple 𝓤 (C g) (By2 𝓤 𝓛 T N (moved Mv) F)) where
+        module _ (g : Callee) (C : Calls 𝓤 H) (Λ : Loops 𝓤 H) (fm : FmC 𝓤 H 𝓛.laws C) (known : Triple 𝓤 (C g) (By2 𝓤 𝓛 T N (moved Mv) F)) where
           walk : ent 𝓤 (on_entry 𝓛 signature (κ, tt) (q, tt) x at) (WpFn 𝓤 H C Λ (wrapper g) (vptr b off ∷ N.val n ∷ []) Post)
           walk =
               qed 𝓛 ((‵ (flft κ q) ⊛ ‵ ftrue) ∷ ‵ (owns (MutRef (named 0) κ (row T) ∷ row N ∷ []) x at) ∷ []) ∵ split ! $ move ! (2 ∷ []) $ fsplit ! $ fsplit3 ! $ drop ! $ move ! (0 ∷ 1 ∷ 3 ∷ []) $
@@ -116,7 +118,7 @@ module _ (T N R : Cell) (Mv : Moved R T) (F : T.Den → N.Den → Mv.Den) (o : T
               move ! (11 ∷ 12 ∷ []) $ free1 ! $ move ! (9 ∷ 10 ∷ []) $ free1 ! $ move ! (7 ∷ 8 ∷ []) $ free1 ! $ move ! (5 ∷ 6 ∷ []) $ free1 ! $ move ! (3 ∷ 4 ∷ []) $ free1 ! $ free0 ! $
               keep ! (0 ∷ 1 ∷ 2 ∷ []) $ by ! (exits (Mv.apart m _ is).0)))))))))
 
-    pub lent : (g : Name) (𝓣 : Tables 𝓤 H) → Triple 𝓤 (𝓣.C g) (By2 𝓤 𝓛 T N (moved Mv) F) → Meets 𝓛 signature (WpFn 𝓤 H 𝓣.C 𝓣.Λ (wrapper g)) (closing 𝓛 ended (clauses 𝓤))
+    pub lent : (g : Callee) (𝓣 : Tables 𝓤 H) → Triple 𝓤 (𝓣.C g) (By2 𝓤 𝓛 T N (moved Mv) F) → Meets 𝓛 signature (WpFn 𝓤 H 𝓣.C 𝓣.Λ (wrapper g)) (closing 𝓛 ended (clauses 𝓤))
     lent g 𝓣 known = walk_Meets 𝓛 ended stayed (Goes-ref 𝓛 1 0 tt (slot T), (Goes-none 𝓛 1 (λ _. row N) yes (λ κs x f. refl), tt)) (clauses 𝓤)
         (WpFn 𝓤 H 𝓣.C 𝓣.Λ (wrapper g)) (WpFn-mono 𝓤 H 𝓛.laws 𝓣 (wrapper g))
         (walked 𝓛 ended stayed (clauses 𝓤) (WpFn 𝓤 H 𝓣.C 𝓣.Λ (wrapper g)) (λ κs. (mut_vals, ((λ y. N.val y ∷ []), tt))) (λ κs. (mut_Tells (named 0) κs.0 (row T), (N.tells, tt)))

@@ -10,8 +10,8 @@ use Prim.Native.Nat.{ℕ}
 use mathlib.Core.List.{List, [], ◌∷◌}
 use lib.ListN.{length}
 use seplogic.Ra.Ura.{Ura}
-use seplogic.Ra.TreeShare.{full_share}
-use mir.Syntax.{Name, Ty, Fn, named, erased, mut, imm, ty_ref, deref, field, place, copy, local, value_local, seq, assign, call, return, rv_opd, addr_of, aggregate}
+use base.Fraction.{full_share}
+use mir.Syntax.{Callee, Ty, Fn, named, erased, mut, imm, ty_ref, deref, field, place, copy, local, value_local, seq, assign, call, return, rv_opd, addr_of, aggregate}
 use mir.Val.{Val, vptr}
 use base.Logic.{SProp, ent, emp, via, fst∗, id⊢}
 use base.Fml.{GName, Lft, Share, ftrue, flft, fobs, fbor, fat}
@@ -27,8 +27,8 @@ use denote.Exit.{yes}
 use denote.RattleType.{owns}
 use denote.Laws.{Is, shows}
 use denote.Memory.{mem, pointee}
-use denote.Ref.{Bor, MutRef, shr_vals, mut_Tells}
-use denote.Slice.{slice_ty, slice_val, MutSlice, ShrSlice, Room, finally, shr_slice_vals, mut_slice_Tells, shr_slice_Tells}
+use denote.Ref.{Bor, MutBor, MutRef, mut_vals, mut_Tells}
+use denote.Slice.{slice_ty, slice_val, MutSlice, ShrSlice, Room, mut_slice_vals, shr_slice_vals, mut_slice_Tells, shr_slice_Tells}
 use denote.Signature.{Signature, mut_ref_to, mut_slice_of, shr_slice_of}
 use denote.Steps.{only, opens, closes, owned, peeks, heard, nothing}
 use denote.Struct.Steps.{spelt}
@@ -39,6 +39,7 @@ use denote.Triple.Call.{calls_at}
 use denote.Triple.Clauses.{Clauses, Ended, closing, ensured, lasts}
 use denote.Triple.Walked.{says, Stays, stay_ref, gave_slice, stay_none, stay_dropped, walk_of, Goes-none, Goes-dropped, Goes-ref, Goes-gave_slice, ends_at, walked, walk_Meets}
 use Rattle.numbers.specs.Promise.{Left2, Left3, Gives2, Gives3}
+use Rattle.lent.proofs.Handed.{last_list}
 use Rattle.lent.proofs.Plain.{Cell, row, slot, Ok, Moved, moved}
 
 module _ (T D E G N R : Cell) (Mv : Moved R T)
@@ -77,10 +78,12 @@ module _ (T D E G N R : Cell) (Mv : Moved R T)
   stayed = (stay_ref (0 ∷ []) tt (slot T), (gave_slice (1 ∷ []) tt (slot D), (gave_slice (2 ∷ []) tt (slot E), (stay_dropped (shr_slice_of (3 ∷ []) tt (slot G)) yes, (stay_none (λ _. row N) yes, tt)))))
 
   -- the MIR: the result, f, a, b, p, n, m, the copy of `*f`, and the slices lent again
-  abbrev wrapper : Name → Fn
+  abbrev wrapper : Callee → Fn
   wrapper g = record {
     lifetimes = 4;
     outlives = [];
+    ty_params = [];
+    givens = 0;
     params = 5;
     locals = local R.ty value_local ∷ local (ty_ref (named 0) mut (pointee T.written)) value_local ∷ local (slice_ty (ty_ref (named 1) mut (pointee D.written))) value_local ∷ local (slice_ty (ty_ref (named 2) mut (pointee E.written))) value_local
         ∷ local (slice_ty (ty_ref (named 3) imm (pointee G.written))) value_local ∷ local N.ty value_local ∷ local ty_m value_local ∷ local T.ty value_local
@@ -101,19 +104,19 @@ module _ (T D E G N R : Cell) (Mv : Moved R T)
     abbrev pub Passed : Contract 𝓤
     Passed = triple_of 𝓛 passed.signature (closing 𝓛 passed (passed_clauses 𝓤))
 
-    module _ (κ₀ κ₁ κ₂ κ₃ : Lft) (q₀ q₁ q₂ q₃ : Share) (fr : Bor T.Den) (ar : Bor (List D.Den)) (br : Bor (List E.Den)) (pr : Bor (List G.Den))
+    module _ (κ₀ κ₁ κ₂ κ₃ : Lft) (q₀ q₁ q₂ q₃ : Share) (fr : MutBor T.Den) (ar : MutBor (List D.Den)) (br : MutBor (List E.Den)) (pr : Bor (List G.Den))
         (ga : Room (row D) (length ar.now)) (gb : Room (row E) (length br.now)) (gp : Room (row G) (length pr.now)) (n : N.Den) (is-n : Ok N n) where
       abbrev h : T.Den
       h = fr.now
 
       abbrev b : ℕ
-      b = fr.ptr.0
+      b = fr.ref_ptr.0
 
       abbrev off : ℕ
-      off = fr.ptr.1
+      off = fr.ref_ptr.1
 
       abbrev γ : GName
-      γ = fr.name
+      γ = fr.ghost_name
 
       abbrev sa : Val
       sa = slice_val ar.ref_ptr (length ar.now)
@@ -124,7 +127,7 @@ module _ (T D E G N R : Cell) (Mv : Moved R T)
       abbrev sp : Val
       sp = slice_val pr.ref_ptr (length pr.now)
 
-      abbrev x : Bor T.Den × (Bor (List D.Den) × (Bor (List E.Den) × (Bor (List G.Den) × (N.Den × Unit {0}))))
+      abbrev x : MutBor T.Den × (MutBor (List D.Den) × (MutBor (List E.Den) × (Bor (List G.Den) × (N.Den × Unit {0}))))
       x = (fr, (ar, (br, (pr, (n, tt)))))
 
       abbrev at : List Val × (List Val × (List Val × (List Val × (List Val × Unit {0}))))
@@ -137,9 +140,9 @@ module _ (T D E G N R : Cell) (Mv : Moved R T)
       Told m ys zs = Gives2 m ys zs (F h ar.now br.now pr.now n)
 
       exits : (m : Mv.Den) (ys : List D.Den) (zs : List E.Den) → Ok R (Mv.ans m) → Told m ys zs → length ys ≡ length ar.now → length zs ≡ length br.now
-          → ent 𝓤 (⋆ 𝓛 (‵ (fobs γ (T.coded.code (Mv.flow m))) ∷ ‵ (fbor κ₀ (Body (mem (row T)) b off γ)) ∷ ‵ (flft κ₀ q₀) ∷ ‵ (finally (row D) ar.name ys) ∷ ‵ (finally (row E) br.name zs) ∷ ‵ (flft κ₁ q₁) ∷ ‵ (flft κ₂ q₂) ∷ ‵ (flft κ₃ q₃) ∷ [])) (Post (R.val (Mv.ans m)))
+          → ent 𝓤 (⋆ 𝓛 (‵ (fobs γ (T.coded.code (Mv.flow m))) ∷ ‵ (fbor κ₀ (Body (mem (row T)) b off γ)) ∷ ‵ (flft κ₀ q₀) ∷ ‵ (last_list D κ₁ ar ys) ∷ ‵ (last_list E κ₂ br zs) ∷ ‵ (flft κ₁ q₁) ∷ ‵ (flft κ₂ q₂) ∷ ‵ (flft κ₃ q₃) ∷ [])) (Post (R.val (Mv.ans m)))
       exits m ys zs ok e len₁ len₂ =
-          qed 𝓛 (‵ (fobs γ (T.coded.code (Mv.flow m))) ∷ ‵ (fbor κ₀ (Body (mem (row T)) b off γ)) ∷ ‵ (flft κ₀ q₀) ∷ ‵ (finally (row D) ar.name ys) ∷ ‵ (finally (row E) br.name zs) ∷ ‵ (flft κ₁ q₁) ∷ ‵ (flft κ₂ q₂) ∷ ‵ (flft κ₃ q₃) ∷ []) ∵
+          qed 𝓛 (‵ (fobs γ (T.coded.code (Mv.flow m))) ∷ ‵ (fbor κ₀ (Body (mem (row T)) b off γ)) ∷ ‵ (flft κ₀ q₀) ∷ ‵ (last_list D κ₁ ar ys) ∷ ‵ (last_list E κ₂ br zs) ∷ ‵ (flft κ₁ q₁) ∷ ‵ (flft κ₂ q₂) ∷ ‵ (flft κ₃ q₃) ∷ []) ∵
           suffices ! _ (ends_at 𝓛 ended stayed (clauses 𝓤) (((κ₀, (κ₁, (κ₂, (κ₃, tt)))), (q₀, (q₁, (q₂, (q₃, tt)))), tt, x, at), tt) (R.val (Mv.ans m)) (Mv.ans m) (Mv.flow m, (ys, (zs, (tt, (tt, tt))))) (tt, (len₁, (len₂, (tt, (tt, tt)))))) $
           says ! (is h ar.now br.now pr.now n m ys zs e) $ nothing ! $ move ! (8 ∷ 0 ∷ []) $ join ! $ move ! (7 ∷ 0 ∷ []) $ join ! $ move ! (6 ∷ 0 ∷ []) $ join ! $ move ! (3 ∷ 0 ∷ []) $ join ! $ frame ! $
           feq_i ! (List Val) (vptr b off ∷ []) (vptr b off ∷ []) refl $ fjoin3 ! $ nothing ! $ owned ! (row N) (Is (row N)) (N.makes 𝓛) n _ is-n $ fjoin ! $ nothing ! $ fjoin ! $ move ! (3 ∷ 0 ∷ []) $ fjoin ! $ move ! (2 ∷ 0 ∷ []) $ fjoin ! $ move ! (1 ∷ 0 ∷ []) $ fjoin ! $
@@ -154,7 +157,7 @@ module _ (T D E G N R : Cell) (Mv : Moved R T)
           nothing ! $ owned ! (row N) (Is (row N)) (N.makes 𝓛) n _ is-n $ fjoin ! $ move ! (6 ∷ 0 ∷ []) $ fjoin ! $ move ! (5 ∷ 0 ∷ []) $ fjoin ! $ move ! (4 ∷ 0 ∷ []) $ fjoin ! $ owned ! (row T) (Is (row T)) (T.makes 𝓛) h _ ok $ fjoin ! $
           nothing ! $ move ! (4 ∷ 0 ∷ []) $ join ! $ move ! (3 ∷ 0 ∷ []) $ join ! $ move ! (2 ∷ 0 ∷ []) $ join ! $ join ! $ frame ! $ done !
 
-      module _ (g : Name) (C : Calls 𝓤 H) (Λ : Loops 𝓤 H) (fm : FmC 𝓤 H 𝓛.laws C) (known : Triple 𝓤 (C g) Passed) where
+      module _ (g : Callee) (C : Calls 𝓤 H) (Λ : Loops 𝓤 H) (fm : FmC 𝓤 H 𝓛.laws C) (known : Triple 𝓤 (C g) Passed) where
         walk : ent 𝓤 (on_entry 𝓛 signature (κ₀, (κ₁, (κ₂, (κ₃, tt)))) (q₀, (q₁, (q₂, (q₃, tt)))) x at) (WpFn 𝓤 H C Λ (wrapper g) (vptr b off ∷ sa ∷ sb ∷ sp ∷ N.val n ∷ []) Post)
         walk =
             qed 𝓛 ((‵ (flft κ₀ q₀) ⊛ ‵ (flft κ₁ q₁) ⊛ ‵ (flft κ₂ q₂) ⊛ ‵ (flft κ₃ q₃) ⊛ ‵ ftrue) ∷ ‵ (owns (MutRef (named 0) κ₀ (row T) ∷ MutSlice (named 1) κ₁ (row D) ∷ MutSlice (named 2) κ₂ (row E) ∷ ShrSlice (named 3) κ₃ (row G) ∷ row N ∷ []) x at) ∷ []) ∵
@@ -175,7 +178,7 @@ module _ (T D E G N R : Cell) (Mv : Moved R T)
             calls_at ! fm Passed known to_g (and_then ! (load ! (from ! (stop !)) (look ! 13 refl)) (and_then ! (load ! (from ! (stop !)) (look ! 9 refl)) (and_then ! (load ! (from ! (stop !)) (look ! 5 refl)) (and_then ! (load ! (from ! (stop !)) (look ! 19 refl)) (and_then ! (load ! (from ! (stop !)) (look ! 17 refl)) (no_more !)))))) (λ v.
             use1 𝓛 (later (some (λ (m : Mv.Den). ((‵ (flft κ₁ q₁) ⊛ ‵ (flft κ₂ q₂) ⊛ ‵ (flft κ₃ q₃) ⊛ ‵ ftrue) ⊛ ‵ (Mv.own m (v ∷ []))) ⊛ raw (ensured 𝓛 passed (passed_clauses 𝓤) (κ₁, (κ₂, (κ₃, tt))) (h, (ar, (br, (pr, (n, tt))))) tt m)))) (id⊢ 𝓤 _) $ await ! tt $ pick ! (λ m.
             split ! $ move ! (1 ∷ []) $ use1 𝓛 (some (λ (ws : Unit {0} × (List D.Den × (List E.Den × (Unit {0} × (Unit {0} × Unit {0}))))). ‵ (lasts passed (κ₁, (κ₂, (κ₃, tt))) (h, (ar, (br, (pr, (n, tt))))) ws) ⊛ raw (fact 𝓤 (Told m ws.1.0 ws.1.1.0)))) (id⊢ 𝓤 _) $ pick ! (λ ws.
-            split ! $ move ! (1 ∷ []) $ heard ! (Told m ws.1.0 ws.1.1.0) (λ e. fsplit ! $ drop ! $ fsplit ! $ fsplit ! $ move ! (1 ∷ []) $ feq_l ! (λ len₁. move ! (1 ∷ []) $ fsplit ! $ fsplit ! $ move ! (1 ∷ []) $ feq_l ! (λ len₂.
+            split ! $ move ! (1 ∷ []) $ heard ! (Told m ws.1.0 ws.1.1.0) (λ e. fsplit ! $ drop ! $ fsplit ! $ fsplit ! $ fsplit ! $ move ! (1 ∷ []) $ feq_l ! (λ len₁. fjoin ! $ move ! (1 ∷ []) $ fsplit ! $ fsplit ! $ fsplit ! $ move ! (1 ∷ []) $ feq_l ! (λ len₂. fjoin ! $
             -- [b's last list; …; a's last list; the tokens and m; the record's cell; …]
             move ! (3 ∷ []) $ split ! $ move ! (1 ∷ []) $ peeks ! (row (moved Mv)) (Is (row (moved Mv))) (shows 𝓛 (row (moved Mv))) m (v ∷ []) (λ is. drop ! $
             land ! (from ! (stop !)) (init ! 18 refl (Mv.typed 𝓛 m _ is).0) $ rewrite ! 18 (λ (u : Val). ‵ (fat full_share ty_m l₆ 0 u)) (ap only (Mv.tells m _ is)) refl $
@@ -188,10 +191,10 @@ module _ (T D E G N R : Cell) (Mv : Moved R T)
             move ! (29 ∷ 30 ∷ []) $ free1 ! $ move ! (27 ∷ 28 ∷ []) $ free1 ! $ move ! (25 ∷ 26 ∷ []) $ free1 ! $ move ! (23 ∷ 24 ∷ []) $ free1 ! $ move ! (21 ∷ 22 ∷ []) $ free1 ! $ move ! (19 ∷ 20 ∷ []) $ free1 ! $ move ! (17 ∷ 18 ∷ []) $ free1 ! $ move ! (15 ∷ 16 ∷ []) $ free1 ! $ move ! (13 ∷ 14 ∷ []) $ free1 ! $ move ! (11 ∷ 12 ∷ []) $ free1 ! $ move ! (9 ∷ 10 ∷ []) $ free1 ! $ move ! (7 ∷ 8 ∷ []) $ free1 ! $ free0 ! $
             move ! (3 ∷ []) $ split ! $ move ! (1 ∷ []) $ split ! $ move ! (1 ∷ []) $ split ! $ keep ! (4 ∷ 5 ∷ 6 ∷ 9 ∷ 7 ∷ 3 ∷ 2 ∷ 0 ∷ []) $ by ! (exits m ws.1.0 ws.1.1.0 (Mv.apart m _ is).0 e len₁ len₂))))))))))))))))))))))
 
-    pub lent_two : (g : Name) (𝓣 : Tables 𝓤 H) → Triple 𝓤 (𝓣.C g) Passed → Meets 𝓛 signature (WpFn 𝓤 H 𝓣.C 𝓣.Λ (wrapper g)) (closing 𝓛 ended (clauses 𝓤))
+    pub lent_two : (g : Callee) (𝓣 : Tables 𝓤 H) → Triple 𝓤 (𝓣.C g) Passed → Meets 𝓛 signature (WpFn 𝓤 H 𝓣.C 𝓣.Λ (wrapper g)) (closing 𝓛 ended (clauses 𝓤))
     lent_two g 𝓣 known = walk_Meets 𝓛 ended stayed (Goes-ref 𝓛 4 0 tt (slot T), (Goes-gave_slice 𝓛 4 1 tt (slot D), (Goes-gave_slice 𝓛 4 2 tt (slot E), (Goes-dropped 𝓛 4 (shr_slice_of (3 ∷ []) tt (slot G)) yes (λ κs x f. refl), (Goes-none 𝓛 4 (λ _. row N) yes (λ κs x f. refl), tt))))) (clauses 𝓤)
         (WpFn 𝓤 H 𝓣.C 𝓣.Λ (wrapper g)) (WpFn-mono 𝓤 H 𝓛.laws 𝓣 (wrapper g))
-        (walked 𝓛 ended stayed (clauses 𝓤) (WpFn 𝓤 H 𝓣.C 𝓣.Λ (wrapper g)) (λ κs. (shr_vals, (shr_slice_vals, (shr_slice_vals, (shr_slice_vals, ((λ y. N.val y ∷ []), tt))))))
+        (walked 𝓛 ended stayed (clauses 𝓤) (WpFn 𝓤 H 𝓣.C 𝓣.Λ (wrapper g)) (λ κs. (mut_vals, (mut_slice_vals, (mut_slice_vals, (shr_slice_vals, ((λ y. N.val y ∷ []), tt))))))
         (λ κs. (mut_Tells (named 0) κs.0 (row T), (mut_slice_Tells (named 1) κs.1.0 (row D), (mut_slice_Tells (named 2) κs.1.1.0 (row E), (shr_slice_Tells (named 3) κs.1.1.1.0 (row G), (N.tells, tt))))))
         (λ κs qs bounds a _ are. via 𝓤 _ (fst∗ 𝓤 _ (emp 𝓤))
         (walk κs.0 κs.1.0 κs.1.1.0 κs.1.1.1.0 qs.0 qs.1.0 qs.1.1.0 qs.1.1.1.0 a.0 a.1.0 a.1.1.0 a.1.1.1.0 are.1.0.0.1 are.1.1.0.0.1 are.1.1.1.0.0.1 a.1.1.1.1.0 are.1.1.1.1.0 g 𝓣.C 𝓣.Λ (fm_of 𝓤 H 𝓛.laws 𝓣) known)))

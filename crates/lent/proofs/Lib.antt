@@ -5,6 +5,7 @@ pub mod LentTwo
 pub mod On
 pub mod Places
 pub mod Loop
+pub mod Handed
 pub mod Fold0
 pub mod Fold1
 pub mod FoldFrom

@@ -8,8 +8,8 @@ use mathlib.Core.Path.{◌≡◌, refl, ap, subst}
 use mathlib.Core.List.{List, [], ◌∷◌}
 use lib.ListN.{length}
 use seplogic.Ra.Ura.{Ura}
-use seplogic.Ra.TreeShare.{full_share}
-use mir.Syntax.{Name, Ty, Fn, named, erased, mut, ty_ref, deref, field, place, copy, local, value_local, seq, assign, call, return, addr_of, aggregate}
+use base.Fraction.{full_share}
+use mir.Syntax.{Callee, Ty, Fn, named, erased, mut, ty_ref, deref, field, place, copy, local, value_local, seq, assign, call, return, addr_of, aggregate}
 use mir.Val.{Val}
 use base.Logic.{SProp, ent, emp, via, fst∗, id⊢}
 use base.Fml.{Lft, Share, ftrue, fat, flft}
@@ -25,8 +25,8 @@ use denote.RattleType.{owns}
 use denote.Shadow.{shadow}
 use denote.Laws.{Is, shows}
 use denote.Memory.{pointee}
-use denote.Ref.{Bor}
-use denote.Slice.{slice_ty, slice_val, MutSlice, ShrSlice, Room, finally, shr_slice_vals, mut_slice_Tells, shr_slice_Tells}
+use denote.Ref.{Bor, MutBor}
+use denote.Slice.{slice_ty, slice_val, MutSlice, ShrSlice, Room, mut_slice_vals, shr_slice_vals, mut_slice_Tells, shr_slice_Tells}
 use denote.Signature.{Signature, mut_slice_of, shr_slice_of}
 use denote.Steps.{only, owned, peeks, heard, nothing}
 use denote.Triple.Entry.{on_entry}
@@ -36,6 +36,7 @@ use denote.Triple.Call.{calls_at}
 use denote.Triple.Clauses.{Clauses, Ended, closing, ensured, lasts}
 use denote.Triple.Walked.{says, Stays, gave_slice, stay_none, stay_dropped, walk_of, Goes-none, Goes-dropped, Goes-gave_slice, ends_at, walked, walk_Meets}
 use Rattle.numbers.specs.Promise.{Left2, Gives2}
+use Rattle.lent.proofs.Handed.{last_list}
 use Rattle.lent.proofs.Plain.{Cell, row, slot, Ok}
 use Rattle.lent.proofs.On.{Over1, list_ty, calls_on1}
 
@@ -66,10 +67,12 @@ module _ (S N D E P N' K B R : Cell) (G : List S.Den → P.Den → B.Den) (F : B
   handed X = ty_ref erased mut (pointee X.written)
 
   -- the MIR
-  abbrev function : Name → Name → Fn
+  abbrev function : Callee → Callee → Fn
   function g₀ g₁ = record {
     lifetimes = 3;
     outlives = [];
+    ty_params = [];
+    givens = 0;
     params = 7;
     locals = local R.ty value_local ∷ local (list_ty S) value_local ∷ local N.ty value_local ∷ local (slice_ty (ty_ref (named 1) mut (pointee D.written))) value_local ∷ local (slice_ty (ty_ref (named 2) mut (pointee E.written))) value_local ∷ local P.ty value_local ∷ local N'.ty value_local ∷ local K.ty value_local ∷ local B.ty value_local ∷ local (handed D) value_local ∷ local (slice_ty (handed D)) value_local ∷ local (handed E) value_local ∷ local (slice_ty (handed E)) value_local ∷ [];
     body = seq (call g₀ (copy (place 1 []) ∷ copy (place 5 []) ∷ []) (place 8 []))
@@ -86,7 +89,7 @@ module _ (S N D E P N' K B R : Cell) (G : List S.Den → P.Den → B.Den) (F : B
     abbrev pub Decides : Contract 𝓤
     Decides = triple_of 𝓛 passed.signature (closing 𝓛 passed (passed_clauses 𝓤))
 
-    module _ (κ₀ κ₁ κ₂ : Lft) (q₀ q₁ q₂ : Share) (lr : Bor (List S.Den)) (ar : Bor (List D.Den)) (br : Bor (List E.Den)) (gl : Room (row S) (length lr.now)) (ga : Room (row D) (length ar.now)) (gb : Room (row E) (length br.now))
+    module _ (κ₀ κ₁ κ₂ : Lft) (q₀ q₁ q₂ : Share) (lr : Bor (List S.Den)) (ar : MutBor (List D.Den)) (br : MutBor (List E.Den)) (gl : Room (row S) (length lr.now)) (ga : Room (row D) (length ar.now)) (gb : Room (row E) (length br.now))
         (n : N.Den) (is-n : Ok N n) (p : P.Den) (is-p : Ok P p) (m : N'.Den) (is_m : Ok N' m) (k : K.Den) (is-k : Ok K k) where
       abbrev seen : B.Den
       seen = G lr.now p
@@ -100,7 +103,7 @@ module _ (S N D E P N' K B R : Cell) (G : List S.Den → P.Den → B.Den) (F : B
       abbrev sb : Val
       sb = slice_val br.ref_ptr (length br.now)
 
-      abbrev x : Bor (List S.Den) × (N.Den × (Bor (List D.Den) × (Bor (List E.Den) × (P.Den × (N'.Den × (K.Den × Unit {0}))))))
+      abbrev x : Bor (List S.Den) × (N.Den × (MutBor (List D.Den) × (MutBor (List E.Den) × (P.Den × (N'.Den × (K.Den × Unit {0}))))))
       x = (lr, (n, (ar, (br, (p, (m, (k, tt)))))))
 
       abbrev at : List Val × (List Val × (List Val × (List Val × (List Val × (List Val × (List Val × Unit {0}))))))
@@ -113,9 +116,9 @@ module _ (S N D E P N' K B R : Cell) (G : List S.Den → P.Den → B.Den) (F : B
       Post = (walk_of 𝓛 ended stayed (clauses 𝓤)).post (((κ₀, (κ₁, (κ₂, tt))), (q₀, (q₁, (q₂, tt))), tt, x, at), tt)
 
       exits : (r : R.Den) (s : List D.Den) (t : List E.Den) → Ok R r → length s ≡ length ar.now → length t ≡ length br.now → Told r s t
-          → ent 𝓤 (⋆ 𝓛 (‵ (finally (row D) ar.name s) ∷ ‵ (finally (row E) br.name t) ∷ ‵ (flft κ₀ q₀) ∷ ‵ (flft κ₁ q₁) ∷ ‵ (flft κ₂ q₂) ∷ [])) (Post (R.val r))
+          → ent 𝓤 (⋆ 𝓛 (‵ (last_list D κ₁ ar s) ∷ ‵ (last_list E κ₂ br t) ∷ ‵ (flft κ₀ q₀) ∷ ‵ (flft κ₁ q₁) ∷ ‵ (flft κ₂ q₂) ∷ [])) (Post (R.val r))
       exits r s t ok len₁ len₂ e =
-          qed 𝓛 (‵ (finally (row D) ar.name s) ∷ ‵ (finally (row E) br.name t) ∷ ‵ (flft κ₀ q₀) ∷ ‵ (flft κ₁ q₁) ∷ ‵ (flft κ₂ q₂) ∷ []) ∵
+          qed 𝓛 (‵ (last_list D κ₁ ar s) ∷ ‵ (last_list E κ₂ br t) ∷ ‵ (flft κ₀ q₀) ∷ ‵ (flft κ₁ q₁) ∷ ‵ (flft κ₂ q₂) ∷ []) ∵
           suffices ! _ (ends_at 𝓛 ended stayed (clauses 𝓤) (((κ₀, (κ₁, (κ₂, tt))), (q₀, (q₁, (q₂, tt))), tt, x, at), tt) (R.val r) r (tt, (tt, (s, (t, (tt, (tt, (tt, tt))))))) (tt, (tt, (len₁, (len₂, (tt, (tt, (tt, tt)))))))) $
           says ! e $ nothing ! $ move ! (5 ∷ 0 ∷ []) $ join ! $ move ! (4 ∷ 0 ∷ []) $ join ! $ move ! (3 ∷ 0 ∷ []) $ join ! $ frame ! $
           -- [a's last; b's last]
@@ -133,7 +136,7 @@ module _ (S N D E P N' K B R : Cell) (G : List S.Den → P.Den → B.Den) (F : B
           owned ! (row N) (Is (row N)) (N.makes 𝓛) n _ is-n $ fjoin ! $ owned ! (row B) (Is (row B)) (B.makes 𝓛) seen _ ok $ fjoin ! $
           nothing ! $ move ! (3 ∷ 0 ∷ []) $ join ! $ move ! (2 ∷ 0 ∷ []) $ join ! $ join ! $ frame ! $ done !
 
-      module _ (g₀ g₁ : Name) (C : Calls 𝓤 H) (Λ : Loops 𝓤 H) (fm : FmC 𝓤 H 𝓛.laws C) (known₀ : Triple 𝓤 (C g₀) (Over1 𝓤 𝓛 S P B G)) (known₁ : Triple 𝓤 (C g₁) Decides) where
+      module _ (g₀ g₁ : Callee) (C : Calls 𝓤 H) (Λ : Loops 𝓤 H) (fm : FmC 𝓤 H 𝓛.laws C) (known₀ : Triple 𝓤 (C g₀) (Over1 𝓤 𝓛 S P B G)) (known₁ : Triple 𝓤 (C g₁) Decides) where
         walk : ent 𝓤 (on_entry 𝓛 signature (κ₀, (κ₁, (κ₂, tt))) (q₀, (q₁, (q₂, tt))) x at) (WpFn 𝓤 H C Λ (function g₀ g₁) (sl ∷ N.val n ∷ sa ∷ sb ∷ P.val p ∷ N'.val m ∷ K.val k ∷ []) Post)
         walk =
             qed 𝓛 ((‵ (flft κ₀ q₀) ⊛ ‵ (flft κ₁ q₁) ⊛ ‵ (flft κ₂ q₂) ⊛ ‵ ftrue) ∷ ‵ (owns (ShrSlice (named 0) κ₀ (row S) ∷ row N ∷ MutSlice (named 1) κ₁ (row D) ∷ MutSlice (named 2) κ₂ (row E) ∷ row P ∷ row N' ∷ row K ∷ []) x at) ∷ []) ∵
@@ -158,7 +161,7 @@ module _ (S N D E P N' K B R : Cell) (G : List S.Den → P.Den → B.Den) (F : B
             calls_at ! fm Decides known₁ to_g (and_then ! (load ! (from ! (stop !)) (look ! 11 refl)) (and_then ! (load ! (from ! (stop !)) (look ! 23 refl)) (and_then ! (load ! (from ! (stop !)) (look ! 7 refl)) (and_then ! (load ! (from ! (stop !)) (look ! 3 refl)) (and_then ! (load ! (from ! (stop !)) (look ! 15 refl)) (and_then ! (load ! (from ! (stop !)) (look ! 13 refl)) (no_more !))))))) (λ v.
             use1 𝓛 (later (some (λ (res : R.Den). ((‵ (flft κ₁ q₁) ⊛ ‵ (flft κ₂ q₂) ⊛ ‵ ftrue) ⊛ ‵ (R.own res (v ∷ []))) ⊛ raw (ensured 𝓛 passed (passed_clauses 𝓤) (κ₁, (κ₂, tt)) (seen, (n, (ar, (br, (m, (k, tt)))))) tt res)))) (id⊢ 𝓤 _) $ await ! tt $ pick ! (λ res.
             split ! $ move ! (1 ∷ []) $ use1 𝓛 (some (λ (ws : Unit {0} × (Unit {0} × (List D.Den × (List E.Den × (Unit {0} × (Unit {0} × Unit {0})))))). ‵ (lasts passed (κ₁, (κ₂, tt)) (seen, (n, (ar, (br, (m, (k, tt)))))) ws) ⊛ raw (fact 𝓤 (Told res ws.1.1.0 ws.1.1.1.0)))) (id⊢ 𝓤 _) $ pick ! (λ ws.
-            split ! $ move ! (1 ∷ []) $ heard ! (Told res ws.1.1.0 ws.1.1.1.0) (λ e. fsplit ! $ drop ! $ fsplit ! $ drop ! $ fsplit ! $ fsplit ! $ move ! (1 ∷ []) $ feq_l ! (λ len₁. move ! (1 ∷ []) $ fsplit ! $ fsplit ! $ move ! (1 ∷ []) $ feq_l ! (λ len₂.
+            split ! $ move ! (1 ∷ []) $ heard ! (Told res ws.1.1.0 ws.1.1.1.0) (λ e. fsplit ! $ drop ! $ fsplit ! $ drop ! $ fsplit ! $ fsplit ! $ fsplit ! $ move ! (1 ∷ []) $ feq_l ! (λ len₁. fjoin ! $ move ! (1 ∷ []) $ fsplit ! $ fsplit ! $ fsplit ! $ move ! (1 ∷ []) $ feq_l ! (λ len₂. fjoin ! $
             -- [b's last list; …; a's last list; the tokens and the result; κ₀; list; the locals]
             move ! (3 ∷ []) $ split ! $ move ! (1 ∷ []) $ peeks ! (row R) (Is (row R)) (shows 𝓛 (row R)) res (v ∷ []) (λ is-r. drop ! $
             land ! (from ! (stop !)) (init ! 30 refl (R.typed 𝓛 res _ is-r).0) $ rewrite ! 30 (λ (z : Val). ‵ (fat full_share R.ty l₀ 0 z)) (ap only (R.tells res _ is-r)) refl $
@@ -168,10 +171,10 @@ module _ (S N D E P N' K B R : Cell) (G : List S.Den → P.Den → B.Den) (F : B
             split ! $ move ! (1 ∷ []) $ split ! $ keep ! (5 ∷ 3 ∷ 6 ∷ 2 ∷ 0 ∷ []) $
             by ! (exits res ws.1.1.0 ws.1.1.1.0 (subst (λ (vs : List Val). shadow (R.own res vs)) (R.tells res _ is-r) is-r) len₁ len₂ e))))))))))))))))))))))
 
-    pub looks_two : (g₀ g₁ : Name) (𝓣 : Tables 𝓤 H) → Triple 𝓤 (𝓣.C g₀) (Over1 𝓤 𝓛 S P B G) → Triple 𝓤 (𝓣.C g₁) Decides → Meets 𝓛 signature (WpFn 𝓤 H 𝓣.C 𝓣.Λ (function g₀ g₁)) (closing 𝓛 ended (clauses 𝓤))
+    pub looks_two : (g₀ g₁ : Callee) (𝓣 : Tables 𝓤 H) → Triple 𝓤 (𝓣.C g₀) (Over1 𝓤 𝓛 S P B G) → Triple 𝓤 (𝓣.C g₁) Decides → Meets 𝓛 signature (WpFn 𝓤 H 𝓣.C 𝓣.Λ (function g₀ g₁)) (closing 𝓛 ended (clauses 𝓤))
     looks_two g₀ g₁ 𝓣 known₀ known₁ = walk_Meets 𝓛 ended stayed (Goes-dropped 𝓛 3 (shr_slice_of (0 ∷ []) tt (slot S)) yes (λ κs x f. refl), (Goes-none 𝓛 3 (λ _. row N) yes (λ κs x f. refl), (Goes-gave_slice 𝓛 3 1 tt (slot D), (Goes-gave_slice 𝓛 3 2 tt (slot E), (Goes-none 𝓛 3 (λ _. row P) yes (λ κs x f. refl), (Goes-none 𝓛 3 (λ _. row N') yes (λ κs x f. refl), (Goes-none 𝓛 3 (λ _. row K) yes (λ κs x f. refl), tt))))))) (clauses 𝓤)
         (WpFn 𝓤 H 𝓣.C 𝓣.Λ (function g₀ g₁)) (WpFn-mono 𝓤 H 𝓛.laws 𝓣 (function g₀ g₁))
-        (walked 𝓛 ended stayed (clauses 𝓤) (WpFn 𝓤 H 𝓣.C 𝓣.Λ (function g₀ g₁)) (λ κs. (shr_slice_vals, ((λ y. N.val y ∷ []), (shr_slice_vals, (shr_slice_vals, ((λ y. P.val y ∷ []), ((λ y. N'.val y ∷ []), ((λ y. K.val y ∷ []), tt))))))))
+        (walked 𝓛 ended stayed (clauses 𝓤) (WpFn 𝓤 H 𝓣.C 𝓣.Λ (function g₀ g₁)) (λ κs. (shr_slice_vals, ((λ y. N.val y ∷ []), (mut_slice_vals, (mut_slice_vals, ((λ y. P.val y ∷ []), ((λ y. N'.val y ∷ []), ((λ y. K.val y ∷ []), tt))))))))
         (λ κs. (shr_slice_Tells (named 0) κs.0 (row S), (N.tells, (mut_slice_Tells (named 1) κs.1.0 (row D), (mut_slice_Tells (named 2) κs.1.1.0 (row E), (P.tells, (N'.tells, (K.tells, tt))))))))
         (λ κs qs bounds a _ are. via 𝓤 _ (fst∗ 𝓤 _ (emp 𝓤)) (walk κs.0 κs.1.0 κs.1.1.0 qs.0 qs.1.0 qs.1.1.0 a.0 a.1.1.0 a.1.1.1.0 are.0.0.1 are.1.1.0.0.1 are.1.1.1.0.0.1
         a.1.0 are.1.0 a.1.1.1.1.0 are.1.1.1.1.0 a.1.1.1.1.1.0 are.1.1.1.1.1.0 a.1.1.1.1.1.1.0 are.1.1.1.1.1.1.0 g₀ g₁ 𝓣.C 𝓣.Λ (fm_of 𝓤 H 𝓛.laws 𝓣) known₀ known₁)))

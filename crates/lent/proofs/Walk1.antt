@@ -18,8 +18,8 @@ use lib.Seq.{set_out}
 use lib.Dec.{T, ltb, ltb→lt, nltb→le, lit<}
 use lib.WfN.{lt-wf_rel}
 use seplogic.Ra.Ura.{Ura}
-use seplogic.Ra.TreeShare.{full_share}
-use mir.Syntax.{Name, Sym, Ty, Written, Fn, Body, named, erased, mut, imm, w64, ty_int, ty_bool, ty_ptr, ty_ref, ty_struct, tcons, tnil, deref, field, place, unsigned, copy, int, local, value_local, skip as skipᴹ, seq, assign, block, loop, cond, exit, call, return, rv_opd, addr_of, aggregate, op2, add, mul, lt, offset}
+use base.Fraction.{full_share}
+use mir.Syntax.{Callee, Sym, Ty, Written, Fn, Body, named, erased, mut, imm, w64, ty_int, ty_bool, ty_ptr, ty_ref, ty_struct, tcons, tnil, deref, field, place, unsigned, copy, int, local, value_local, skip as skipᴹ, seq, assign, block, loop, cond, call, return, rv_opd, addr_of, aggregate, op2, mul, lt, offset}
 use mir.Val.{Val, vint, vptr, vstruct, vcons, vnil, bits}
 use base.Logic.{SProp, ent, emp, sep, via, fst∗}
 use base.Stored.{Coded}
@@ -28,7 +28,7 @@ use prog.Memory.{size}
 use prog.Wp.{Out, Env, after_seq, after_block, after_turn, Calls, Loops, Wp, at_return, WpFn, Tables}
 use types.Logic.{Logic, sem}
 use contract.Monad.{fact}
-use types.Kit.{Item, ‵, ◌⊛◌, ⋆, some, later, runs, any_q, at_ret, Sq, ◌$◌, ◌∵◌, !, qed, by, move, keep, drop, use1, split, join, pick, rewrite, fsplit, fjoin, feq_i, suffices, frame, await, done}
+use types.Kit.{Item, ‵, ◌⊛◌, ⋆, later, runs, any_q, at_ret, Sq, ◌$◌, ◌∵◌, !, qed, by, move, keep, drop, use2, split, join, rewrite, fsplit, fjoin, feq_i, suffices, frame, await, done}
 use types.Run.{look, look_raw, store, store_raw, init, forget, stop, hop, fld, from, load, lit, addr, of_opd, bin, and_then, no_more, assigns, assigns_last, land, first, skips, jumps, blocks, branches, returns, enter, alloc1, alloc0, params1, pass1, pass0, free1, free0, exec, Below, again, loops}
 use types.Part.{agg, whole, sub, look_in}
 use types.Share.{arr_parts}
@@ -38,7 +38,7 @@ use denote.Exit.{yes}
 use denote.RattleType.{owns}
 use denote.Shadow.{shadow, pure_i}
 use denote.Laws.{Typed, Is, shows}
-use denote.Lend.{Held, lends_shr_slice}
+use denote.Lend.{Held}
 use denote.Memory.{pointee, shares}
 use denote.Ref.{Bor, MutBor}
 use denote.Slice.{slice_ty, slice_val, MutSlice, ShrSlice, heres, Room, mut_slice_vals, mut_slice_Tells, mut_slice_at, coded_holeys}
@@ -52,7 +52,8 @@ use denote.Triple.Clauses.{Clauses, Ended, closing}
 use denote.Triple.Walked.{says, Stays, stay_slice, stay_none, walk_of, Goes-slice, Goes-none, Walks, ends_at, walked, walk_Meets}
 use Rattle.numbers.specs.Promise.{Left1, Gives1}
 use Rattle.lent.proofs.Places.{word, place-fits, next_fits, nearer, one_more, none_left}
-use Rattle.lent.proofs.Plain.{Cell, row, slot, Ok, By1, By2, calls1, calls2}
+use Rattle.lent.proofs.Handed.{lends_list}
+use Rattle.lent.proofs.Plain.{Cell, whole_shr, whole_shr_laws, whole_copied, row, slot, Ok, By1, By2, calls1, calls2}
 use Rattle.lent.proofs.Loop.{more_of, turn_of}
 use Rattle.lent.proofs.On.{Over0, calls_on0}
 
@@ -81,13 +82,17 @@ placed {Q} {S} D = record {
   ty = ty_struct D.name (tcons Q.ty (tcons (ty_int w64) (tcons S.ty tnil)));
   written = D.written;
   reaches = D.reaches;
+  lives = [];
   own = D.own;
   coded = D.coded;
+  shr_at = whole_shr (ty_struct D.name (tcons Q.ty (tcons (ty_int w64) (tcons S.ty tnil)))) D.own;
   val = λ m. vstruct (vcons (Q.val (D.ans m)) (vcons (vint w64 (D.at m)) (vcons (S.val (D.elem m)) vnil)));
   tells = D.tells;
   typed = D.typed;
   makes = D.makes;
   twice = D.twice;
+  shr_laws = whole_shr_laws (ty_struct D.name (tcons Q.ty (tcons (ty_int w64) (tcons S.ty tnil)))) D.own;
+  copied = λ 𝓛. whole_copied 𝓛 (ty_struct D.name (tcons Q.ty (tcons (ty_int w64) (tcons S.ty tnil)))) D.written D.reaches D.own D.coded (λ m. vstruct (vcons (Q.val (D.ans m)) (vcons (vint w64 (D.at m)) (vcons (S.val (D.elem m)) vnil)))) D.tells (D.twice 𝓛);
 }
 
 -- S is the element, P the parameter, C what is asked of the whole list first, B the accumulator, Q the answer. d is any element, and `small` is `tt`
@@ -120,10 +125,10 @@ module _ (S P C B Q : Cell) (D : Placed Q S) (F : List S.Den → C.Den) (begin :
   lent_slice = slice_ty lent
 
   -- the MIR
-  abbrev more : Name → Body
+  abbrev more : Callee → Body
   more = more_of S 4 5 10 11 12 13
 
-  abbrev turn : Name → Body
+  abbrev turn : Callee → Body
   turn = turn_of S 4 5 10 11 12 13
 
   abbrev last : Body
@@ -134,17 +139,19 @@ module _ (S P C B Q : Cell) (D : Placed Q S) (F : List S.Den → C.Den) (begin :
       (seq (assign (place 17 []) (op2 offset (copy (place 1 (field 0 ∷ []))) (copy (place 16 []))))
       (assign (place 17 (deref S.ty ∷ [])) (rv_opd (copy (place 6 (field 2 ∷ []))))))
 
-  abbrev rest : Name → Body
+  abbrev rest : Callee → Body
   rest g = seq (call g (copy (place 4 []) ∷ []) (place 6 []))
       (seq (assign (place 7 []) (rv_opd (copy (place 6 (field 1 ∷ [])))))
       (seq (assign (place 14 []) (rv_opd (copy (place 1 (field 1 ∷ [])))))
       (seq (assign (place 15 []) (op2 (lt unsigned) (copy (place 7 [])) (copy (place 14 []))))
       (seq (cond (copy (place 15 [])) puts skipᴹ) last))))
 
-  abbrev function : Name → Name → Name → Name → Fn
+  abbrev function : Callee → Callee → Callee → Callee → Fn
   function g₀ g₁ g₂ g₃ = record {
     lifetimes = 1;
     outlives = [];
+    ty_params = [];
+    givens = 0;
     params = 2;
     locals = local Q.ty value_local ∷ local slice value_local ∷ local P.ty value_local ∷ local C.ty value_local ∷ local B.ty value_local ∷ local word value_local ∷ local ty_d value_local ∷ local word value_local ∷ local lent value_local ∷ local lent_slice value_local ∷ local word value_local ∷ local ty_bool value_local ∷ local ty_ptr value_local ∷ local S.ty value_local ∷ local word value_local ∷ local ty_bool value_local ∷ local word value_local ∷ local ty_ptr value_local ∷ [];
     body = seq (assign (place 8 []) (addr_of (place 1 (field 0 ∷ deref S.ty ∷ []))))
@@ -154,7 +161,7 @@ module _ (S P C B Q : Cell) (D : Placed Q S) (F : List S.Den → C.Den) (begin :
         (seq (assign (place 5 []) (rv_opd (int w64 0))) (seq (block (loop (turn g₂))) (rest g₃))))));
   }
 
-  module _ {M : Type 1} {𝓤 : Ura M} (𝓛 : Logic 𝓤) (𝓣 : Tables 𝓤 𝓛.H) (g₀ g₁ g₂ g₃ : Name) (known₀ : Triple 𝓤 (𝓣.C g₀) (Over0 𝓤 𝓛 S C F)) (known₁ : Triple 𝓤 (𝓣.C g₁) (By2 𝓤 𝓛 P C B begin)) (known₂ : Triple 𝓤 (𝓣.C g₂) (By2 𝓤 𝓛 B S B step)) (known₃ : Triple 𝓤 (𝓣.C g₃) (By1 𝓤 𝓛 B (placed D) end)) where
+  module _ {M : Type 1} {𝓤 : Ura M} (𝓛 : Logic 𝓤) (𝓣 : Tables 𝓤 𝓛.H) (g₀ g₁ g₂ g₃ : Callee) (known₀ : Triple 𝓤 (𝓣.C g₀) (Over0 𝓤 𝓛 S C F)) (known₁ : Triple 𝓤 (𝓣.C g₁) (By2 𝓤 𝓛 P C B begin)) (known₂ : Triple 𝓤 (𝓣.C g₂) (By2 𝓤 𝓛 B S B step)) (known₃ : Triple 𝓤 (𝓣.C g₃) (By1 𝓤 𝓛 B (placed D) end)) where
     open 𝓛 use {H}
 
     module _ (κ : Lft) (q : Share) (b o : ℕ) (γ : GName) (ys : List S.Den) (gn : Room (row S) (length ys)) (p : P.Den) (is-p : Ok P p) where
@@ -164,7 +171,7 @@ module _ (S P C B Q : Cell) (D : Placed Q S) (F : List S.Den → C.Den) (begin :
       abbrev all : B.Den
       all = foldl step (begin p (F ys)) ys
 
-      abbrev x : Bor (List S.Den) × (P.Den × Unit {0})
+      abbrev x : MutBor (List S.Den) × (P.Den × Unit {0})
       x = (record { ref_ptr = (b, o); ghost_name = γ; now = ys }, (p, tt))
 
       abbrev at : List Val × (List Val × Unit {0})
@@ -289,9 +296,9 @@ module _ (S P C B Q : Cell) (D : Placed Q S) (F : List S.Den → C.Den) (begin :
             next : T (ltb s.0 n) → Ok B (step s.1.0 elem) → Upto
             next less is = (s.0 + 1, (step s.1.0 elem, (omega (arith, less_than less), (is, one_more step d ys s.0 s.1.0 all (less_than less) s.1.1.1.1))))
 
-      -- the list as it is lent to f, under the name γ'
-      abbrev ref : GName → MutBor (List S.Den)
-      ref γ' = record { ref_ptr = (b, o); ghost_name = γ'; now = ys }
+      -- the list as it is lent to f
+      abbrev ref : Bor (List S.Den)
+      ref = record { ref_ptr = (b, o); now = ys }
 
       walk : ent 𝓤 (on_entry 𝓛 signature (κ, tt) (q, tt) x at) (WpFn 𝓤 H 𝓣.C 𝓣.Λ (function g₀ g₁ g₂ g₃) (slice_val (b, o) n ∷ P.val p ∷ []) Post)
       walk =
@@ -305,9 +312,9 @@ module _ (S P C B Q : Cell) (D : Placed Q S) (F : List S.Den → C.Den) (begin :
           assigns ! (agg ! (and_then ! (load ! (from ! (stop !)) (look ! 22 refl)) (and_then ! (load ! (from ! (fld ! refl (stop !))) (look_in ! 36 (sub ! 1 refl (whole !)))) (no_more !)))) (from ! (stop !)) (init ! 20 refl (tt, (tt, (record { fits = gn.0 }, tt)))) $
           -- the list is lent for a lifetime of the call
           feq_i ! ℕ n n refl $ fjoin ! $ lft_new ! tt (λ α. move ! (1 ∷ []) $
-          use1 𝓛 (later (some (λ (γ' : GName). ‵ ((ShrSlice (named 0) (α ∷ []) (row S)).own_val (ref γ') at.0) ⊛ ‵ (flent (α ∷ []) ((arr_parts (shares (row S)) n).part full_share ys b o)))))
-          (lends_shr_slice 𝓛 (row S) (named 0) (α ∷ []) full_share ys b o gn) $ await ! tt $ pick ! (λ γ'. split ! $ move ! (2 ∷ 0 ∷ []) $
-          calls_on0 ! (fm_of 𝓤 H 𝓛.laws 𝓣) S C F known₀ (α ∷ []) full_share (ref γ') (and_then ! (load ! (from ! (stop !)) (look ! 22 refl)) (no_more !)) (λ is_c.
+          use2 𝓛 (later ((‵ ((ShrSlice (named 0) (α ∷ []) (row S)).own_val ref at.0) ⊛ ‵ (flent (α ∷ []) ((arr_parts (shares (row S)) n).part full_share ys b o))) ⊛ ‵ (flft (α ∷ []) full_share)))
+          (lends_list 𝓛 S α ys b o gn) $ await ! tt $ split ! $ split ! $ move ! (2 ∷ 0 ∷ []) $
+          calls_on0 ! (fm_of 𝓤 H 𝓛.laws 𝓣) S C F known₀ (α ∷ []) full_share ref (and_then ! (load ! (from ! (stop !)) (look ! 22 refl)) (no_more !)) (λ is_c.
           -- [the token; the list as lent; the lender's part; the open borrow; obs; auth; the locals]
           land ! (from ! (stop !)) (init ! 34 refl (C.typed 𝓛 (F ys) _ is_c).0) $
           lft_end ! tt $ move ! (0 ∷ 2 ∷ []) $ lent_back ! tt $ move ! (1 ∷ []) $ drop ! $ fsplit ! $ drop ! $
@@ -315,7 +322,7 @@ module _ (S P C B Q : Cell) (D : Placed Q S) (F : List S.Den → C.Den) (begin :
           land ! (from ! (stop !)) (init ! 30 refl (B.typed 𝓛 (begin p (F ys)) _ is).0) $
           assigns ! (of_opd ! (lit ! tt)) (from ! (stop !)) (init ! 28 refl (tt, record { fits = lit< tt })) $
           forget ! 20 refl $ forget ! 22 refl $ forget ! 32 refl $ first ! $ blocks ! $
-          loops ! 𝓣 Nearer Nearer_wf (At l₀ l₁ l₂ l₃ l₄ l₅ l₆ l₇ l₈ l₉ m₀ m₁ m₂ m₃ m₄ m₅ m₆ m₇) (turns l₀ l₁ l₂ l₃ l₄ l₅ l₆ l₇ l₈ l₉ m₀ m₁ m₂ m₃ m₄ m₅ m₆ m₇) (0, (begin p (F ys), (zero-le, (is, refl))))))))))))))))))))))))))
+          loops ! 𝓣 Nearer Nearer_wf (At l₀ l₁ l₂ l₃ l₄ l₅ l₆ l₇ l₈ l₉ m₀ m₁ m₂ m₃ m₄ m₅ m₆ m₇) (turns l₀ l₁ l₂ l₃ l₄ l₅ l₆ l₇ l₈ l₉ m₀ m₁ m₂ m₃ m₄ m₅ m₆ m₇) (0, (begin p (F ys), (zero-le, (is, refl)))))))))))))))))))))))))
 
     walks : Walks 𝓛 ended stayed (WpFn 𝓤 H 𝓣.C 𝓣.Λ (function g₀ g₁ g₂ g₃)) (clauses 𝓤)
     walks = walked 𝓛 ended stayed (clauses 𝓤) (WpFn 𝓤 H 𝓣.C 𝓣.Λ (function g₀ g₁ g₂ g₃)) (λ κs. (mut_slice_vals, ((λ y. P.val y ∷ []), tt))) (λ κs. (mut_slice_Tells (named 0) κs.0 (row S), (P.tells, tt)))

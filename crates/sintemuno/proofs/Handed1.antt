@@ -8,8 +8,8 @@ use mathlib.Core.Path.{◌≡◌, refl, ap, subst}
 use mathlib.Core.List.{List, [], ◌∷◌}
 use lib.ListN.{length}
 use seplogic.Ra.Ura.{Ura}
-use seplogic.Ra.TreeShare.{full_share}
-use mir.Syntax.{Name, Fn, named, imm, ty_ref, place, copy, local, value_local, seq, call, return}
+use base.Fraction.{full_share}
+use mir.Syntax.{Callee, Fn, named, imm, ty_ref, place, copy, local, value_local, seq, call, return}
 use mir.Val.{Val}
 use base.Logic.{SProp, ent, emp, via, fst∗, id⊢}
 use base.Fml.{Lft, Share, ftrue, flft, fat}
@@ -51,10 +51,12 @@ module _ (S P Q : Cell) (G : List S.Den → P.Den → Q.Den) where
   stayed = (stay_dropped (shr_slice_of (0 ∷ []) tt (slot S)) yes, (stay_none (λ _. row P) yes, tt))
 
   -- the MIR: the result, list and p
-  abbrev wrapper : Name → Fn
+  abbrev wrapper : Callee → Fn
   wrapper g = record {
     lifetimes = 1;
     outlives = [];
+    ty_params = [];
+    givens = 0;
     params = 2;
     locals = local Q.ty value_local ∷ local (slice_ty (ty_ref (named 0) imm (pointee S.written))) value_local ∷ local P.ty value_local ∷ [];
     body = seq (call g (copy (place 1 []) ∷ copy (place 2 []) ∷ []) (place 0 [])) return;
@@ -95,7 +97,7 @@ module _ (S P Q : Cell) (G : List S.Den → P.Den → Q.Den) where
           nothing ! $ owned ! (row P) (Is (row P)) (P.makes 𝓛) p _ is-p $ fjoin ! $ move ! (2 ∷ 0 ∷ []) $ fjoin ! $
           nothing ! $ move ! (2 ∷ 0 ∷ []) $ join ! $ join ! $ frame ! $ done !
 
-      module _ (g : Name) (C : Calls 𝓤 H) (Λ : Loops 𝓤 H) (fm : FmC 𝓤 H 𝓛.laws C) (known : Triple 𝓤 (C g) Same) where
+      module _ (g : Callee) (C : Calls 𝓤 H) (Λ : Loops 𝓤 H) (fm : FmC 𝓤 H 𝓛.laws C) (known : Triple 𝓤 (C g) Same) where
         walk : ent 𝓤 (on_entry 𝓛 signature (κ, tt) (q, tt) x at) (WpFn 𝓤 H C Λ (wrapper g) (sa ∷ P.val p ∷ []) Post)
         walk =
             qed 𝓛 ((‵ (flft κ q) ⊛ ‵ ftrue) ∷ ‵ (owns (ShrSlice (named 0) κ (row S) ∷ row P ∷ []) x at) ∷ []) ∵
@@ -117,7 +119,7 @@ module _ (S P Q : Cell) (G : List S.Den → P.Den → Q.Den) where
             returns ! (look ! 5 refl) $ forget ! 1 refl $ forget ! 3 refl $ forget ! 5 refl $ move ! (5 ∷ 6 ∷ []) $ free1 ! $ move ! (3 ∷ 4 ∷ []) $ free1 ! $ move ! (1 ∷ 2 ∷ []) $ free1 ! $ free0 ! $
             split ! $ keep ! (0 ∷ []) $ by ! (exits m (subst (λ (vs : List Val). shadow (Q.own m vs)) (Q.tells m _ is) is) e)))))))))
 
-    pub hands_on : (g : Name) (𝓣 : Tables 𝓤 H) → Triple 𝓤 (𝓣.C g) Same → Meets 𝓛 signature (WpFn 𝓤 H 𝓣.C 𝓣.Λ (wrapper g)) (closing 𝓛 ended (clauses 𝓤))
+    pub hands_on : (g : Callee) (𝓣 : Tables 𝓤 H) → Triple 𝓤 (𝓣.C g) Same → Meets 𝓛 signature (WpFn 𝓤 H 𝓣.C 𝓣.Λ (wrapper g)) (closing 𝓛 ended (clauses 𝓤))
     hands_on g 𝓣 known = walk_Meets 𝓛 ended stayed (Goes-dropped 𝓛 1 (shr_slice_of (0 ∷ []) tt (slot S)) yes (λ κs x f. refl), (Goes-none 𝓛 1 (λ _. row P) yes (λ κs x f. refl), tt)) (clauses 𝓤)
         (WpFn 𝓤 H 𝓣.C 𝓣.Λ (wrapper g)) (WpFn-mono 𝓤 H 𝓛.laws 𝓣 (wrapper g))
         (walked 𝓛 ended stayed (clauses 𝓤) (WpFn 𝓤 H 𝓣.C 𝓣.Λ (wrapper g)) (λ κs. (shr_slice_vals, ((λ y. P.val y ∷ []), tt))) (λ κs. (shr_slice_Tells (named 0) κs.0 (row S), (P.tells, tt)))

@@ -8,8 +8,8 @@ use mathlib.Core.Path.{◌≡◌, refl, ap, subst}
 use mathlib.Core.List.{List, [], ◌∷◌}
 use lib.ListN.{length}
 use seplogic.Ra.Ura.{Ura}
-use seplogic.Ra.TreeShare.{full_share}
-use mir.Syntax.{Name, Fn, named, erased, mut, ty_ref, deref, field, place, copy, local, value_local, seq, assign, call, return, addr_of, aggregate}
+use base.Fraction.{full_share}
+use mir.Syntax.{Callee, Fn, named, erased, mut, ty_ref, deref, field, place, copy, local, value_local, seq, assign, call, return, addr_of, aggregate}
 use mir.Val.{Val}
 use base.Logic.{SProp, ent, emp, via, fst∗, id⊢}
 use base.Fml.{Lft, Share, ftrue, flft, fat}
@@ -26,7 +26,7 @@ use denote.Shadow.{shadow}
 use denote.Laws.{Is, shows}
 use denote.Memory.{pointee}
 use denote.Ref.{MutBor}
-use denote.Slice.{slice_ty, slice_val, MutSlice, Room, finally, mut_slice_vals, mut_slice_Tells}
+use denote.Slice.{slice_ty, slice_val, MutSlice, Room, mut_slice_vals, mut_slice_Tells}
 use denote.Signature.{Signature, mut_slice_of}
 use denote.Steps.{only, owned, peeks, heard, nothing}
 use denote.Triple.Entry.{on_entry}
@@ -36,6 +36,7 @@ use denote.Triple.Call.{calls_at}
 use denote.Triple.Clauses.{Clauses, Ended, closing, ensured, lasts}
 use denote.Triple.Walked.{says, Stays, gave_slice, stay_none, walk_of, Goes-none, Goes-gave_slice, ends_at, walked, walk_Meets}
 use Rattle.numbers.specs.Promise.{Left1, Gives1}
+use Rattle.lent.proofs.Handed.{last_list}
 use Rattle.lent.proofs.Plain.{Cell, row, slot, Ok}
 
 -- S is the element, P the parameter, Q the answer
@@ -53,10 +54,12 @@ module _ (S P Q : Cell) (o : List S.Den → P.Den → Left1 Q.Den (List S.Den)) 
   stayed = (gave_slice (0 ∷ []) tt (slot S), (stay_none (λ _. row P) yes, tt))
 
   -- the MIR: the result, list, p, and the list lent again
-  abbrev wrapper : Name → Fn
+  abbrev wrapper : Callee → Fn
   wrapper g = record {
     lifetimes = 1;
     outlives = [];
+    ty_params = [];
+    givens = 0;
     params = 2;
     locals = local Q.ty value_local ∷ local (slice_ty (ty_ref (named 0) mut (pointee S.written))) value_local ∷ local P.ty value_local
         ∷ local (ty_ref erased mut (pointee S.written)) value_local ∷ local (slice_ty (ty_ref erased mut (pointee S.written))) value_local ∷ [];
@@ -87,9 +90,9 @@ module _ (S P Q : Cell) (o : List S.Den → P.Den → Left1 Q.Den (List S.Den)) 
       abbrev Told : Q.Den → List S.Den → Type 0
       Told m ys = Gives1 m ys (o ar.now p)
 
-      exits : (m : Q.Den) (ys : List S.Den) → Ok Q m → Told m ys → length ys ≡ length ar.now → ent 𝓤 (⋆ 𝓛 (‵ (finally (row S) ar.ghost_name ys) ∷ ‵ (flft κ q) ∷ [])) (Post (Q.val m))
+      exits : (m : Q.Den) (ys : List S.Den) → Ok Q m → Told m ys → length ys ≡ length ar.now → ent 𝓤 (⋆ 𝓛 (‵ (last_list S κ ar ys) ∷ ‵ (flft κ q) ∷ [])) (Post (Q.val m))
       exits m ys ok e len =
-          qed 𝓛 (‵ (finally (row S) ar.name ys) ∷ ‵ (flft κ q) ∷ []) ∵
+          qed 𝓛 (‵ (last_list S κ ar ys) ∷ ‵ (flft κ q) ∷ []) ∵
           suffices ! _ (ends_at 𝓛 ended stayed (clauses 𝓤) (((κ, tt), (q, tt), tt, x, at), tt) (Q.val m) m (ys, (tt, tt)) (len, (tt, tt))) $
           says ! e $ nothing ! $ move ! (2 ∷ 0 ∷ []) $ join ! $ frame ! $
           nothing ! $ owned ! (row P) (Is (row P)) (P.makes 𝓛) p _ is-p $ fjoin ! $ move ! (1 ∷ 0 ∷ []) $ fjoin ! $
@@ -104,7 +107,7 @@ module _ (S P Q : Cell) (o : List S.Den → P.Den → Left1 Q.Den (List S.Den)) 
           nothing ! $ owned ! (row P) (Is (row P)) (P.makes 𝓛) p _ is-p $ fjoin ! $ move ! (2 ∷ 0 ∷ []) $ fjoin ! $
           nothing ! $ move ! (2 ∷ 0 ∷ []) $ join ! $ join ! $ frame ! $ done !
 
-      module _ (g : Name) (C : Calls 𝓤 H) (Λ : Loops 𝓤 H) (fm : FmC 𝓤 H 𝓛.laws C) (known : Triple 𝓤 (C g) Same) where
+      module _ (g : Callee) (C : Calls 𝓤 H) (Λ : Loops 𝓤 H) (fm : FmC 𝓤 H 𝓛.laws C) (known : Triple 𝓤 (C g) Same) where
         walk : ent 𝓤 (on_entry 𝓛 signature (κ, tt) (q, tt) x at) (WpFn 𝓤 H C Λ (wrapper g) (sa ∷ P.val p ∷ []) Post)
         walk =
             qed 𝓛 ((‵ (flft κ q) ⊛ ‵ ftrue) ∷ ‵ (owns (MutSlice (named 0) κ (row S) ∷ row P ∷ []) x at) ∷ []) ∵
@@ -120,7 +123,7 @@ module _ (S P Q : Cell) (o : List S.Den → P.Den → Left1 Q.Den (List S.Den)) 
             calls_at ! fm Same known to_g (and_then ! (load ! (from ! (stop !)) (look ! 1 refl)) (and_then ! (load ! (from ! (stop !)) (look ! 5 refl)) (no_more !))) (λ v.
             use1 𝓛 (later (some (λ (m : Q.Den). ((‵ (flft κ q) ⊛ ‵ ftrue) ⊛ ‵ (Q.own m (v ∷ []))) ⊛ raw (ensured 𝓛 ended (clauses 𝓤) (κ, tt) x tt m)))) (id⊢ 𝓤 _) $ await ! tt $ pick ! (λ m.
             split ! $ move ! (1 ∷ []) $ use1 𝓛 (some (λ (ws : List S.Den × (Unit {0} × Unit {0})). ‵ (lasts ended (κ, tt) x ws) ⊛ raw (fact 𝓤 (Told m ws.0)))) (id⊢ 𝓤 _) $ pick ! (λ ws.
-            split ! $ move ! (1 ∷ []) $ heard ! (Told m ws.0) (λ e. fsplit ! $ fsplit ! $ move ! (1 ∷ []) $ feq_l ! (λ len.
+            split ! $ move ! (1 ∷ []) $ heard ! (Told m ws.0) (λ e. fsplit ! $ fsplit ! $ fsplit ! $ move ! (1 ∷ []) $ feq_l ! (λ len. fjoin ! $
             -- [list's last; …; the token and m; the locals; …]
             move ! (2 ∷ []) $ split ! $ move ! (1 ∷ []) $ peeks ! (row Q) (Is (row Q)) (shows 𝓛 (row Q)) m (v ∷ []) (λ is. drop ! $
             land ! (from ! (stop !)) (init ! 11 refl (Q.typed 𝓛 m _ is).0) $ rewrite ! 11 (λ (u : Val). ‵ (fat full_share Q.ty l₀ 0 u)) (ap only (Q.tells m _ is)) refl $
@@ -129,7 +132,7 @@ module _ (S P Q : Cell) (o : List S.Den → P.Den → Left1 Q.Den (List S.Den)) 
             move ! (11 ∷ 12 ∷ []) $ free1 ! $ move ! (9 ∷ 10 ∷ []) $ free1 ! $ move ! (7 ∷ 8 ∷ []) $ free1 ! $ move ! (5 ∷ 6 ∷ []) $ free1 ! $ move ! (3 ∷ 4 ∷ []) $ free1 ! $ free0 ! $
             split ! $ keep ! (2 ∷ 0 ∷ []) $ by ! (exits m ws.0 (subst (λ (vs : List Val). shadow (Q.own m vs)) (Q.tells m _ is) is) e len))))))))))))
 
-    pub hands_on : (g : Name) (𝓣 : Tables 𝓤 H) → Triple 𝓤 (𝓣.C g) Same → Meets 𝓛 signature (WpFn 𝓤 H 𝓣.C 𝓣.Λ (wrapper g)) (closing 𝓛 ended (clauses 𝓤))
+    pub hands_on : (g : Callee) (𝓣 : Tables 𝓤 H) → Triple 𝓤 (𝓣.C g) Same → Meets 𝓛 signature (WpFn 𝓤 H 𝓣.C 𝓣.Λ (wrapper g)) (closing 𝓛 ended (clauses 𝓤))
     hands_on g 𝓣 known = walk_Meets 𝓛 ended stayed (Goes-gave_slice 𝓛 1 0 tt (slot S), (Goes-none 𝓛 1 (λ _. row P) yes (λ κs x f. refl), tt)) (clauses 𝓤)
         (WpFn 𝓤 H 𝓣.C 𝓣.Λ (wrapper g)) (WpFn-mono 𝓤 H 𝓛.laws 𝓣 (wrapper g))
         (walked 𝓛 ended stayed (clauses 𝓤) (WpFn 𝓤 H 𝓣.C 𝓣.Λ (wrapper g)) (λ κs. (mut_slice_vals, ((λ y. P.val y ∷ []), tt))) (λ κs. (mut_slice_Tells (named 0) κs.0 (row S), (P.tells, tt)))
