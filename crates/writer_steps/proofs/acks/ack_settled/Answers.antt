@@ -18,4 +18,4 @@ returns c =
     let settle = c.settle-s in
     ack_decided args.flow args.proxy args.unsent.now args.gaps.now args.set args.seen found-end.result found-end.ensures beside-ack.result beside-ack.ensures acked_by_lem.result acked_by_lem.ensures
     asking.result asking.ensures acked-end.result acked-end.ensures front-with.result front-with.ensures stored.result stored.ensures
-    among.result among.new.gaps among.new.?2 among.ensures after.result after.ensures settle.result settle.ensures
+    among.result among.new.unsent among.new.gaps among.ensures after.result after.ensures settle.result settle.ensures

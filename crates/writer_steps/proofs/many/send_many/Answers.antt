@@ -15,7 +15,7 @@ returns-then-answer-ne0 c =
     let emptied = c.emptied-answer in
     let ok = sym coherent.ensures ∙ c.if-not-is_coherent_store.false in
     refused_at args.flow args.room args.lens.now args.proxy args.unsent.now args.numbers.now args.starts.now args.lengths.now ok smaller2.result smaller.result smaller.ensures smaller2.ensures
-    take-unsent.result take-unsent.new.out take-unsent.new.?2 take-unsent.ensures emptied.result emptied.ensures c.if-answer-ne0.true
+    take-unsent.result take-unsent.new.unsent take-unsent.new.out take-unsent.ensures emptied.result emptied.ensures c.if-answer-ne0.true
 
 pub slice_bounds-places-end : goal.slice_bounds-places-end
 slice_bounds-places-end c =
@@ -27,7 +27,7 @@ slice_bounds-places-end c =
     let emptied = c.emptied-answer in
     let ok = sym coherent.ensures ∙ c.if-not-is_coherent_store.false in
     count_in args.flow args.room args.lens.now args.proxy args.unsent.now args.numbers.now args.starts.now args.lengths.now ok smaller2.result smaller.result smaller.ensures smaller2.ensures
-    take-unsent.result take-unsent.new.out take-unsent.new.?2 take-unsent.ensures emptied.result emptied.ensures c.if-answer-ne0.false
+    take-unsent.result take-unsent.new.unsent take-unsent.new.out take-unsent.ensures emptied.result emptied.ensures c.if-answer-ne0.false
 
 pub slice_bounds-places-end-2 : goal.slice_bounds-places-end-2
 slice_bounds-places-end-2 c =
@@ -40,7 +40,7 @@ slice_bounds-places-end-2 c =
     let ok = sym coherent.ensures ∙ c.if-not-is_coherent_store.false in
     sym (length-take-le take-unsent.result.count _ (
     count_in args.flow args.room args.lens.now args.proxy args.unsent.now args.numbers.now args.starts.now args.lengths.now ok smaller2.result smaller.result smaller.ensures smaller2.ensures
-    take-unsent.result take-unsent.new.out take-unsent.new.?2 take-unsent.ensures emptied.result emptied.ensures c.if-answer-ne0.false))
+    take-unsent.result take-unsent.new.unsent take-unsent.new.out take-unsent.ensures emptied.result emptied.ensures c.if-answer-ne0.false))
 
 pub places-requires : goal.places-requires
 places-requires c =
@@ -52,7 +52,7 @@ places-requires c =
     let emptied = c.emptied-answer in
     let ok = sym coherent.ensures ∙ c.if-not-is_coherent_store.false in
     placeable_at args.flow args.room args.lens.now args.proxy args.unsent.now args.numbers.now args.starts.now args.lengths.now ok smaller2.result smaller.result smaller.ensures smaller2.ensures
-    take-unsent.result take-unsent.new.out take-unsent.new.?2 take-unsent.ensures emptied.result emptied.ensures c.if-answer-ne0.false
+    take-unsent.result take-unsent.new.unsent take-unsent.new.out take-unsent.ensures emptied.result emptied.ensures c.if-answer-ne0.false
 
 pub returns : goal.returns
 returns c =
@@ -65,4 +65,4 @@ returns c =
     let ok = sym coherent.ensures ∙ c.if-not-is_coherent_store.false in
     let places = c.places in
     done_at args.flow args.room args.lens.now args.proxy args.unsent.now args.numbers.now args.starts.now args.lengths.now ok smaller2.result smaller.result smaller.ensures smaller2.ensures
-    take-unsent.result take-unsent.new.out take-unsent.new.?2 take-unsent.ensures emptied.result emptied.ensures c.if-answer-ne0.false places.new.?3 places.new.?4 places.ensures.0 places.ensures.1
+    take-unsent.result take-unsent.new.unsent take-unsent.new.out take-unsent.ensures emptied.result emptied.ensures c.if-answer-ne0.false places.new.starts places.new.lengths places.ensures.0 places.ensures.1

@@ -12,5 +12,5 @@ returns c =
     let long : length args.heads ≡ 2 = c.well_formed.0.1.0.1 in
     let look = c.look_for_in_2-seen in
     let settled = c.ack_settled-d in
-    ack_in_2 args.heads (omega (arith, long)) args.flow look.result args.proxy args.unsent.now args.gaps.now args.id args.set look.ensures settled.result settled.new.?2 settled.new.?3 settled.ensures
+    ack_in_2 args.heads (omega (arith, long)) args.flow look.result args.proxy args.unsent.now args.gaps.now args.id args.set look.ensures settled.result settled.new.unsent settled.new.gaps settled.ensures
     c.put_in_2-after.result c.put_in_2-after.ensures
