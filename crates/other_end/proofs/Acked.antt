@@ -1,14 +1,14 @@
 -- An ACKNACK, done by the calls on the forms of the system's list, flow record and reader's record: the three move together. Assumes nothing.
 use Prim.Native.Nat.{ℕ, suc, ◌≤◌}
 use mathlib.Core.Path.{◌≡◌, refl, sym, ap, subst, ◌∙◌}
-use mathlib.Core.Bool.{Bool, true, false, not, cond}
+use mathlib.Core.Bool.{Bool, true, false, not}
 use mathlib.Core.List.{List, [], ◌∷◌}
 use native.Mathlib.Omega.{arith}
 use lib.Dec.{ltb, eqb}
 use lib.ListN.{length, get_or, set}
 use borrow.Author.Tests.{ltb-false, eq-eqb}
 use Rattle.numbers.specs.Number.{rank_of, negative, number_at}
-use Rattle.numbers.specs.Refusals.{row, answer_of, is_done, unless, done, Rows}
+use Rattle.numbers.specs.Refusals.{row, answer_of, unless, done, Rows}
 use Rattle.numbers.specs.Answers.{is_before, earlier, in_turn, answered}
 use Rattle.numbers.specs.Promise.{Left1, Left2, Left4}
 use Rattle.numbers.specs.declared.answer.Answer.{Answer}

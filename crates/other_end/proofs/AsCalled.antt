@@ -38,13 +38,13 @@ use Rattle.writer_send_buffer.specs.Samples.{store_coherent, slot_start, slot_of
 use Rattle.writer_send_buffer.specs.History.{admit, set_sent, evict_before}
 use Rattle.writer_send_buffer.proofs.Kept.{coherent-step}
 use Rattle.writer_send_buffer.proofs.Steps.{view_form, form_coherent as flow-coherent, fits-blank}
-use Rattle.writer_write.specs.Write.{UnsentPart, Written, told, write_step}
+use Rattle.writer_write.specs.Write.{Written, told, write_step}
 use Rattle.writer_write.specs.InPlace.{write_of}
 use Rattle.writer_write.specs.Standing.{standing, all_unsent_coherent, stands_as}
 use Rattle.writer_write.proofs.Standing.{whole_after, roomy_after}
 use Rattle.other_end.specs.Calls.{ReaderCall, result, call_rows}
 use Rattle.other_end.specs.System.{Line, Body, sample, gap, beat, ack, Msg, State, Event, match, depart, write, sent_to, evict_to, call, heartbeat, send, reply, deliver, find, upd, nth, on_server, with_lines, state_with_flow, tried, ack_refusals, acknowledges, called, write_refusals, sent_refusals, evict_refusals, wrote, evicts, arrive, step}
-use Rattle.other_end.specs.AsCalled.{Starts, Then, called_on, Acks, ack_on, ArriveCalled, DeliverCalled, unsent_part_form, Writes, WriteCalled, SentCalled, EvictCalled, Outcome, CallCalled, AsCalled}
+use Rattle.other_end.specs.AsCalled.{Starts, Then, called_on, Acks, ack_on, ArriveCalled, DeliverCalled, unsent_part_form, WriteCalled, SentCalled, EvictCalled, Outcome, CallCalled, AsCalled}
 use Rattle.other_end.proofs.Found.{none-some, find-same, All, found_all}
 use Rattle.other_end.proofs.Calls.{done-clear}
 use Rattle.other_end.proofs.Fine.{Sane}

@@ -1,5 +1,5 @@
 -- The reader list: what stands in it for an id after a match, a departure or an acknowledgement, and the frontier against each of its heads. Assumes nothing.
-use Prim.Native.Nat.{ℕ, zero, suc, ◌+◌, ◌≤◌, max}
+use Prim.Native.Nat.{ℕ, zero, suc, ◌≤◌, max}
 use mathlib.Core.Path.{◌≡◌, refl, sym, ap, subst, ◌∙◌}
 use mathlib.Core.Bool.{Bool, true, false, not, cond, ◌&&◌, ◌||◌, true≢false, false≢true}
 use mathlib.Core.Logic.{◌⊎◌, inl, inr}

@@ -1,5 +1,5 @@
 -- A match, a departure and an ACKNACK keep what holds of every state. Assumes nothing.
-use Prim.Native.Nat.{ℕ, suc, ◌+◌, ◌-◌, ◌≤◌, max}
+use Prim.Native.Nat.{ℕ, suc, ◌+◌, ◌≤◌, max}
 use mathlib.Core.Path.{◌≡◌, refl, sym, ap, subst, ◌∙◌}
 use mathlib.Core.Bool.{Bool, true, false, not, cond, ◌&&◌, ◌||◌, false≢true}
 use mathlib.Core.Logic.{◌⊎◌, inl, inr}
@@ -17,11 +17,11 @@ use Rattle.rtps_reader_proxy.specs.Reader.{base_of, acked_after, acknowledge}
 use Rattle.reader_record.proofs.Kept.{fresh-valid}
 use Rattle.reader_list.specs.Readers.{Head, free, frontier, place_of_id, is_there, head_at, matched, departed}
 use Rattle.reader_list.proofs.Kept.{fits-matched, fits-departed, fits-acknowledged}
-use Rattle.writer_send_buffer.specs.Flow.{Flow, ahead, stored}
+use Rattle.writer_send_buffer.specs.Flow.{Flow, stored}
 use Rattle.writer_send_buffer.proofs.Sound.{Fits}
 use Rattle.writer_send_buffer.proofs.Steps.{fits-stored}
 use Rattle.other_end.specs.Model.{base}
-use Rattle.other_end.specs.System.{Line, State, match, find, upd, dropped, line_head, on_server, match_refusals, newcomer, line_matched, line_departed, ack_refusals, acked_heads, acknowledges}
+use Rattle.other_end.specs.System.{Line, State, find, upd, dropped, line_head, on_server, match_refusals, newcomer, line_matched, line_departed, ack_refusals, acked_heads, acknowledges}
 use Rattle.other_end.proofs.Found.{some-line, find-id, find-upd, find-stays, find-left, find-kept, apart_upd, apart_dropped}
 use Rattle.other_end.proofs.Heads.{there_other, head_other, set_own, known_is, is_known, gone, fits-different, frontier_at_lem, Low, low_set, low_at, frontier-low}
 use Rattle.other_end.proofs.Records.{within-fresh}

@@ -2,7 +2,7 @@
 use Prim.Native.Nat.{ℕ}
 use mathlib.Core.Path.{◌≡◌, refl, sym, ap, subst, ◌∙◌}
 use mathlib.Core.Bool.{Bool, true, false, not, cond}
-use mathlib.Core.List.{List, [], ◌∷◌}
+use mathlib.Core.List.{List, []}
 use lib.ListN.{length, set}
 use borrow.Author.Tests.{eqb-true, not-false}
 use Rattle.numbers.specs.Refusals.{answer_of, is_done, unless, done, Rows}
@@ -21,7 +21,7 @@ use Rattle.writer_send_buffer.specs.declared.flow.Told.{Told}
 use Rattle.writer_send_buffer.specs.declared.flow.WriterSendBuffer.{WriterSendBuffer}
 use Rattle.writer_send_buffer.specs.declared.frontiers.Woken.{Woken}
 use Rattle.writer_send_buffer.specs.Flow.{Flow, stored, wakes}
-use Rattle.writer_send_buffer.specs.Buffer.{flow_form, flow_coherent, limited, told_no, acked_of, woken}
+use Rattle.writer_send_buffer.specs.Buffer.{flow_form, flow_coherent, limited, told_no, woken}
 use Rattle.writer_send_buffer.specs.Samples.{store_coherent}
 use Rattle.writer_send_buffer.specs.History.{set_acked}
 use Rattle.writer_send_buffer.proofs.Sound.{Fits}

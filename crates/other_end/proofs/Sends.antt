@@ -31,7 +31,7 @@ use Rattle.writer_send_buffer.proofs.Steps.{view_form, form_coherent as flow-coh
 use Rattle.writer_steps.specs.declared.send.Sent.{Sent}
 use Rattle.numbers.specs.Answers.{stepped}
 use Rattle.writer_steps.specs.Send.{first_unsent, send_of}
-use Rattle.other_end.specs.System.{Line, sample, gap, State, send, on_server, send_first, send_to, step}
+use Rattle.other_end.specs.System.{Line, sample, gap, State, on_server, send_first, send_to}
 use Rattle.other_end.specs.AsCalled.{Then, Sends, SendCalled}
 use Rattle.other_end.proofs.Found.{find-same}
 use Rattle.other_end.proofs.Steps.{unsent-coherent, by_unsent_lem, by_unsent_is}

@@ -1,5 +1,5 @@
 -- What holds of every state that the system can reach. That every step keeps it is in Joins and Runs. Assumes nothing.
-use Prim.Native.Nat.{ℕ, zero, suc, ◌-◌}
+use Prim.Native.Nat.{ℕ, zero, suc}
 use mathlib.Core.Path.{◌≡◌, refl, sym, ap, subst, ◌∙◌}
 use mathlib.Core.Bool.{Bool, true, false, cond}
 use mathlib.Core.Logic.{◌⊎◌, inl, inr}
@@ -10,7 +10,7 @@ use Rattle.numbers.specs.Refusals.{answer_of, is_done, Rows}
 use Rattle.reader_list.specs.Readers.{Head, is_there, head_at, readers_coherent}
 use Rattle.reader_list.specs.Slots.{id_unknown}
 use Rattle.writer_send_buffer.proofs.Sound.{Fits}
-use Rattle.other_end.specs.System.{Line, Body, Msg, State, find, upd, nth, line_head, with_lines, post, tried, step}
+use Rattle.other_end.specs.System.{Line, Body, Msg, State, find, upd, nth, line_head, with_lines, post, tried}
 use Rattle.other_end.proofs.Found.{some_msg, find-id, find-upd, find-kept, Apart, apart_upd}
 use Rattle.other_end.proofs.Heads.{Low}
 use Rattle.other_end.proofs.Fine.{Sane, Good, Fine, fine_post}

@@ -31,7 +31,7 @@ use Rattle.rtps_reader_proxy.specs.Record.{room_for, unsent_coherent, gaps_coher
 use Rattle.rtps_reader_proxy.specs.Unsent.{by_unsent, unsent_by, notified_of}
 use Rattle.rtps_reader_proxy.specs.Gaps.{by_gaps, gaps_by, member_rows, end_rows}
 use Rattle.rtps_reader_proxy.specs.Fragments.{frags_requested_of, frags_coherent, by_frags, frags_by, request_rows}
-use Rattle.rtps_reader_proxy.specs.Acks.{by_both, proxy_after, ack_fits, ack_rows_of, ack_nacked_among}
+use Rattle.rtps_reader_proxy.specs.Acks.{by_both, proxy_after, ack_rows_of, ack_nacked_among}
 use Rattle.reader_record.specs.Whole.{rooms_whole, rooms_coherent, record_form, Valid}
 use Rattle.reader_record.proofs.Whole.{entries_in_lem, form_coherent}
 use Rattle.reader_list.specs.declared.calls.Found.{Found}

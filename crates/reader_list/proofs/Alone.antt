@@ -1,6 +1,6 @@
 -- Slot by slot, from the last to the first, whether each is free or none after it has its id: so the ids are all different. Assumes nothing.
 use Prim.Native.Nat.{ℕ, suc, ◌+◌, ◌-◌, ◌*◌, ◌/◌, ◌%◌, ◌<◌, ◌≤◌, ◌^◌, max}
-use mathlib.Core.Path.{◌≡◌, refl, sym, ap, subst, ◌∙◌}
+use mathlib.Core.Path.{◌≡◌, refl, sym, ap, ◌∙◌}
 use mathlib.Core.Bool.{Bool, true, false, not, cond, ◌&&◌, ◌||◌, and_comm, false≢true}
 use mathlib.Core.List.{List, [], ◌∷◌, foldl}
 use native.Mathlib.Omega.{arith}
@@ -12,7 +12,6 @@ use lib.Seq.{drop-cons}
 use borrow.Author.Tests.{eqb-true, eq-eqb}
 use Rattle.sets.proofs.Bools.{or_assoc, or_no}
 use Rattle.reader_list.specs.declared.heads.ReaderHead.{ReaderHead}
-use Rattle.reader_list.specs.declared.ids.Sought.{Sought}
 use Rattle.reader_list.specs.declared.ids.Met.{Met}
 use Rattle.reader_list.specs.Readers.{is_there, different}
 use Rattle.reader_list.specs.Slots.{readers, free_slot}

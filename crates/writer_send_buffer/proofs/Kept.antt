@@ -15,7 +15,7 @@ use Rattle.numbers.specs.Refusals.{answer_at, answer_of, is_done, done}
 use Rattle.numbers.specs.declared.answer.Answer.{Answer}
 use Rattle.numbers.specs.declared.sequence_number.SequenceNumber.{SequenceNumber}
 use Rattle.writer_send_buffer.specs.declared.flow.WriterSendBuffer.{WriterSendBuffer}
-use Rattle.writer_send_buffer.specs.Flow.{Flow, flow_view_coherent, used_up, admitted, trimmed, retained, ahead, stored, wakes, raised, evicted}
+use Rattle.writer_send_buffer.specs.Flow.{Flow, used_up, admitted, trimmed, retained, ahead, stored, wakes, raised, evicted}
 use Rattle.reader_list.specs.Slots.{frontier_of}
 use Rattle.writer_send_buffer.specs.Buffer.{flow_view, flow_form, told_no}
 use Rattle.writer_send_buffer.specs.Samples.{slot_of, bytes_of, with_bytes, lengths_fit, store_rows, store_coherent, write_rows, Shown, sample_shown, none_shown, fetch_of}

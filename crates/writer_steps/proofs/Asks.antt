@@ -3,7 +3,7 @@
 use Prim.Native.Nat.{ℕ}
 use mathlib.Core.Path.{◌≡◌, refl, sym, ap, subst, ◌∙◌}
 use mathlib.Core.Bool.{Bool, true, false, not, cond, ◌&&◌}
-use mathlib.Core.List.{List, [], ◌∷◌}
+use mathlib.Core.List.{List, ◌∷◌}
 use borrow.Author.Tests.{eqb-true, eqb-false}
 use Rattle.numbers.specs.Number.{rank_of}
 use Rattle.numbers.specs.Refusals.{row, answer_of, is_done, Rows}
@@ -23,7 +23,6 @@ use Rattle.reader_list.specs.declared.heads.ReaderHead.{ReaderHead}
 use Rattle.reader_list.specs.declared.calls.Found.{Found}
 use Rattle.reader_list.specs.Slots.{found_of}
 use Rattle.writer_steps.specs.Frags.{not_asked, nack_frag_of, nack_frag_step}
-use Rattle.writer_steps.proofs.Together.{found_rows, found_answer}
 
 module _ (n : SequenceNumber) (set : FragmentNumberSet) (h : ReaderProxy) (samples words : List ℕ) where
   -- THE READER'S OWN CALL

@@ -1,19 +1,19 @@
 -- Where what is sent lies, and the send step for many, call by call. Assumes nothing.
-use Prim.Native.Nat.{ℕ, zero, suc, ◌+◌, ◌-◌, ◌*◌, ◌%◌, ◌≤◌, ◌<◌, min}
+use Prim.Native.Nat.{ℕ, zero, suc, ◌+◌, ◌≤◌, ◌<◌, min}
 use mathlib.Core.Path.{◌≡◌, refl, sym, ap, subst, ◌∙◌}
 use mathlib.Core.Bool.{Bool, true, false, not, cond, ◌&&◌, ◌||◌, false≢true}
 use mathlib.Core.List.{List, [], ◌∷◌, ◌++◌, map, append_assoc}
 use native.Mathlib.Nat.{lt_irrefl}
 use native.Mathlib.Omega.{arith}
 use lib.Dec.{eqb}
-use lib.ListN.{length, take, drop, get_or, set, length-map, length-take, take-append-drop}
+use lib.ListN.{length, take, drop, get_or, set, length-map, take-append-drop}
 use lib.Seq.{length-take-le, take_at, take_all, drop-append-le}
 use borrow.Author.Tests.{eq-eqb, ne_eqb}
 use Rattle.sets.specs.Sets.{has, empty, without}
 use Rattle.sets.proofs.Loops.{upto, upto_more}
 use Rattle.numbers.specs.Capacities.{top_number}
 use Rattle.numbers.specs.Number.{rank_of, number_at}
-use Rattle.numbers.specs.Refusals.{answer_at, row, answer_of, unless, done, is_done}
+use Rattle.numbers.specs.Refusals.{answer_at, row, unless, done}
 use Rattle.numbers.specs.Promise.{Left2, Left4, Gives2, Gives4}
 use Rattle.numbers.specs.declared.answer.Answer.{Answer}
 use Rattle.numbers.proofs.Ranks.{rank_back}
@@ -25,17 +25,17 @@ use Rattle.rtps_reader_proxy.specs.declared.proxy.ReaderProxy.{ReaderProxy}
 use Rattle.rtps_reader_proxy.specs.declared.unsent.Taken.{Taken}
 use Rattle.rtps_reader_proxy.specs.Reader.{taken, untaken}
 use Rattle.rtps_reader_proxy.specs.Record.{unsent_coherent}
-use Rattle.rtps_reader_proxy.specs.Unsent.{by_unsent, taken_of}
+use Rattle.rtps_reader_proxy.specs.Unsent.{taken_of}
 use Rattle.rtps_reader_proxy.proofs.UnsentCalls.{UnsentIs, unsent-is, taken_is}
 use Rattle.writer_send_buffer.specs.declared.flow.WriterSendBuffer.{WriterSendBuffer}
 use Rattle.writer_send_buffer.specs.declared.samples.Located.{Located}
 use Rattle.writer_send_buffer.specs.Flow.{retained}
-use Rattle.writer_send_buffer.specs.Buffer.{flow_view, flow_coherent, fetched}
+use Rattle.writer_send_buffer.specs.Buffer.{flow_view, fetched}
 use Rattle.writer_send_buffer.specs.Samples.{store_coherent, store_rows, slot_start, slot_of, locate_of}
 use Rattle.writer_send_buffer.proofs.Sound.{holds}
 use Rattle.writer_send_buffer.proofs.Locating.{located_coherent}
 use Rattle.writer_steps.specs.declared.many.SentMany.{SentMany}
-use Rattle.writer_steps.specs.Many.{Gone, Sending, sending, no_start, starts_at, long_as, many_rows, most_of, many_left, send_many_of, gone_as, located_start, start_for, length_for, Placeable, emptied}
+use Rattle.writer_steps.specs.Many.{Gone, Sending, sending, no_start, starts_at, long_as, most_of, many_left, send_many_of, gone_as, located_start, start_for, length_for, Placeable, emptied}
 use Rattle.writer_steps.proofs.Repeats.{sending-is}
 
 -- ---- WHERE ONE LIES: what `locate` says of a coherent store, with no look at it

@@ -2,11 +2,11 @@
 use Prim.Native.Nat.{ℕ, ◌<◌}
 use mathlib.Core.Path.{◌≡◌, refl, sym, ap, ◌∙◌}
 use mathlib.Core.Bool.{Bool, true, false, cond}
-use mathlib.Core.List.{List, [], ◌∷◌}
-use borrow.Author.Tests.{eq-eqb, ne_eqb, eqb-true, eqb-false}
-use Rattle.numbers.specs.Number.{rank_of, negative, number_at}
+use mathlib.Core.List.{List}
+use borrow.Author.Tests.{eq-eqb, eqb-true}
+use Rattle.numbers.specs.Number.{rank_of, negative}
 use Rattle.numbers.specs.Refusals.{answer_of, done, is_done, unless, Rows}
-use Rattle.numbers.specs.Answers.{earlier, in_turn, answered}
+use Rattle.numbers.specs.Answers.{earlier}
 use Rattle.numbers.specs.Promise.{Left1, Left2, Left4}
 use Rattle.numbers.specs.declared.answer.Answer.{Answer}
 use Rattle.numbers.proofs.Refused.{Clear, clear}
@@ -14,12 +14,11 @@ use Rattle.numbers.proofs.Answered.{unless-answer, left-done, right_done, turn-d
 use Rattle.number_sets.specs.declared.sequence_number_set.SequenceNumberSet.{SequenceNumberSet}
 use Rattle.rtps_reader_proxy.specs.declared.proxy.ReaderProxy.{ReaderProxy}
 use Rattle.rtps_reader_proxy.specs.declared.acks.AckNacked.{AckNacked}
-use Rattle.rtps_reader_proxy.specs.Acks.{ack_rows, ack_leaves, ack_nacked_of, among_answer, ack_nacked_among}
+use Rattle.rtps_reader_proxy.specs.Acks.{ack_rows, ack_leaves, among_answer, ack_nacked_among}
 use Rattle.reader_list.specs.declared.heads.ReaderHead.{ReaderHead}
 use Rattle.reader_list.specs.declared.calls.Match.{Match}
-use Rattle.reader_list.specs.declared.calls.Acked.{Acked}
 use Rattle.reader_list.specs.Readers.{frontier, matched, departed, acknowledged}
-use Rattle.reader_list.specs.Slots.{readers, list_coherent, list_rows, id_unknown, match_rows, front_of, found_of, match_of, depart_of, ack_of}
+use Rattle.reader_list.specs.Slots.{readers, list_coherent, list_rows, id_unknown, match_rows, front_of, found_of}
 use Rattle.reader_list.proofs.Kept.{match_is, depart-is, ack-is}
 use Rattle.writer_send_buffer.specs.declared.flow.WriterSendBuffer.{WriterSendBuffer}
 use Rattle.writer_send_buffer.specs.declared.flow.Told.{Told}

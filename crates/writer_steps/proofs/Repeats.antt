@@ -1,6 +1,6 @@
 -- The send step again and again takes the unsent numbers from the front. Assumes nothing.
 use Prim.Native.Nat.{ℕ, zero, suc, ◌≤◌}
-use mathlib.Core.Path.{◌≡◌, refl, sym, ap, subst, ◌∙◌}
+use mathlib.Core.Path.{◌≡◌, refl, sym, ap, ◌∙◌}
 use mathlib.Core.Bool.{Bool, true, false, not, cond, ◌&&◌, ◌||◌, false≢true}
 use mathlib.Core.List.{List, [], ◌∷◌, map}
 use native.Mathlib.Omega.{arith}
@@ -8,7 +8,7 @@ use lib.Dec.{leb, eqb}
 use lib.ListN.{length, take}
 use lib.Seq.{length-take-le}
 use borrow.Author.Tests.{le-leb, eq-eqb}
-use Rattle.sets.specs.Sets.{has, only, without, empty, first_or}
+use Rattle.sets.specs.Sets.{has, without, empty, first_or}
 use Rattle.sets.proofs.Bools.{and_both}
 use Rattle.numbers.specs.Capacities.{top_number}
 use Rattle.numbers.specs.Number.{rank_of, in_range, number_at}
@@ -21,14 +21,14 @@ use Rattle.numbers.specs.declared.cursor.NextNumber.{NextNumber}
 use Rattle.numbers.specs.declared.sequence_number.SequenceNumber.{SequenceNumber}
 use Rattle.numbers.proofs.Ranks.{rank_back}
 use Rattle.rising.specs.Runs.{run_coherent, room_of}
-use Rattle.rising.proofs.Meaning.{Rising, RunIs, room-is, room_ok, room_take, room-length, rising_only, only_all}
+use Rattle.rising.proofs.Meaning.{Rising, room-is, room_ok, room_take, room-length, rising_only, only_all}
 use Rattle.rising.proofs.Changes.{only_le}
 use Rattle.rtps_reader_proxy.specs.Parts.{count_unsent}
 use Rattle.rtps_reader_proxy.specs.declared.proxy.ReaderProxy.{ReaderProxy}
 use Rattle.rtps_reader_proxy.specs.declared.proxy.Changed.{Changed}
-use Rattle.rtps_reader_proxy.specs.Reader.{marked_sent, taken, untaken}
+use Rattle.rtps_reader_proxy.specs.Reader.{taken, untaken}
 use Rattle.rtps_reader_proxy.specs.Record.{proxy_coherent, unsent_coherent}
-use Rattle.rtps_reader_proxy.specs.Unsent.{by_unsent, marked_sent_of}
+use Rattle.rtps_reader_proxy.specs.Unsent.{marked_sent_of}
 use Rattle.rtps_reader_proxy.proofs.UnsentCalls.{UnsentIs, unsent-is}
 use Rattle.writer_send_buffer.specs.declared.flow.WriterSendBuffer.{WriterSendBuffer}
 use Rattle.writer_send_buffer.specs.declared.flow.Numbered.{Numbered}

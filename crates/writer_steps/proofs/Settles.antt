@@ -1,6 +1,6 @@
 -- What a step decides of one walk, stored, is the step. Assumes nothing.
 use Prim.Native.Nat.{ℕ, ◌<◌, ◌^◌}
-use mathlib.Core.Path.{◌≡◌, refl, sym, ap, subst, ◌∙◌}
+use mathlib.Core.Path.{◌≡◌, ap, subst, ◌∙◌}
 use mathlib.Core.Bool.{Bool, true, false, cond}
 use mathlib.Core.List.{List}
 use native.Mathlib.Omega.{arith}
@@ -21,18 +21,16 @@ use Rattle.reader_list.specs.declared.calls.Found.{Found}
 use Rattle.reader_list.specs.declared.calls.Front.{Front}
 use Rattle.reader_list.specs.declared.ends.Put.{Put}
 use Rattle.reader_list.specs.declared.walk.Seen.{Seen}
-use Rattle.reader_list.specs.Slots.{front_of, found_of, match_of, depart_of, ack_of}
+use Rattle.reader_list.specs.Slots.{front_of, match_of, depart_of}
 use Rattle.reader_list.specs.Walk.{match_end, depart_end, acked_end, found_end, walk_asking, front_with, seen_for, seen_match}
 use Rattle.reader_list.proofs.Answers.{match-gives, depart-gives, found_answers}
 use Rattle.reader_list.proofs.Foreseen.{match_front, depart_front, ack_front, ack-gives}
 use Rattle.writer_send_buffer.specs.declared.flow.WriterSendBuffer.{WriterSendBuffer}
-use Rattle.writer_send_buffer.specs.declared.flow.Told.{Told}
 use Rattle.writer_send_buffer.specs.declared.frontiers.Woken.{Woken}
 use Rattle.writer_steps.specs.declared.acks.AckTold.{AckTold}
 use Rattle.writer_steps.specs.declared.acks.AckSettled.{AckSettled}
 use Rattle.writer_steps.specs.declared.stores.Settled.{Settled}
 use Rattle.writer_steps.specs.declared.two.Listed2.{Listed2}
-use Rattle.writer_steps.specs.declared.two.AckTaken2.{AckTaken2}
 use Rattle.writer_steps.specs.Readers.{stored_of, beside_flow, after, list_after, list_step, match_step, depart_step, settled_of, put_settled, match_settled, depart_settled}
 use Rattle.writer_steps.specs.Acks.{acked_by, beside_ack, acked_list, ack_stored, ack_left, ack_step, ack_put, ack_ahead, ack_settled_by, ack_taken, ack_settled}
 use Rattle.writer_steps.specs.Two.{listed2, taken2}

@@ -4,11 +4,11 @@ use Prim.Native.Nat.{ℕ, ◌<◌}
 use mathlib.Core.Path.{◌≡◌, refl, sym, ap, ◌∙◌}
 use mathlib.Core.Bool.{Bool, true, false, not, cond}
 use mathlib.Core.List.{List, [], ◌∷◌}
-use lib.Dec.{ltb, eqb}
+use lib.Dec.{eqb}
 use borrow.Author.Tests.{eq-eqb, ne_eqb, eqb-true, eqb-false, lt-ltb}
-use Rattle.numbers.specs.Number.{rank_of, negative, number_at}
+use Rattle.numbers.specs.Number.{rank_of, number_at}
 use Rattle.numbers.specs.Refusals.{row, answer_of, done, is_done, Rows}
-use Rattle.numbers.specs.Promise.{Left1, Left2}
+use Rattle.numbers.specs.Promise.{Left1}
 use Rattle.numbers.specs.declared.answer.Answer.{Answer}
 use Rattle.reader_list.specs.declared.heads.ReaderHead.{ReaderHead}
 use Rattle.reader_list.specs.declared.heads.AckedFrontier.{AckedFrontier}
@@ -25,7 +25,7 @@ use Rattle.writer_send_buffer.specs.Flow.{ahead, stored, wakes}
 use Rattle.writer_send_buffer.specs.Buffer.{flow_view, flow_form, ranged, acked_of, told_no, woken}
 use Rattle.writer_send_buffer.specs.Buffer as buffer
 use Rattle.numbers.specs.Answers.{earlier, answered}
-use Rattle.writer_steps.specs.Readers.{not_stored, stored_of, beside_flow, after, list_after, list_step, frontier_in}
+use Rattle.writer_steps.specs.Readers.{not_stored, stored_of, beside_flow, after, list_after, frontier_in}
 use Rattle.numbers.proofs.Answered.{unless-answer, unless-done}
 
 -- what is answered, where it is done

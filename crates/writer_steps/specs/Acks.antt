@@ -1,5 +1,5 @@
 -- An ACKNACK taken by reader id: the reader's record, its head's acked in the list and the stored frontier move together. Assumes nothing.
-use Rattle.std.specs.Prelude.{refl, ℕ, Bool, not, cond, ◌&&◌, List, [], ◌∷◌, eqb}
+use Rattle.std.specs.Prelude.{refl, ℕ, not, ◌&&◌, List, [], ◌∷◌, eqb}
 use Rattle.numbers.specs.Number.{rank_of, number_at}
 use Rattle.numbers.specs.Refusals.{row, answer_of, is_done, Rows}
 use Rattle.numbers.specs.Answers.{earlier}
@@ -13,7 +13,6 @@ use Rattle.rtps_reader_proxy.specs.Reader.{acked_after}
 use Rattle.rtps_reader_proxy.specs.Acks.{ack_nacked_among}
 use Rattle.reader_list.specs.declared.heads.ReaderHead.{ReaderHead}
 use Rattle.reader_list.specs.declared.calls.Found.{Found}
-use Rattle.reader_list.specs.declared.calls.Acked.{Acked}
 use Rattle.reader_list.specs.declared.ends.Put.{Put}
 use Rattle.reader_list.specs.declared.walk.Seen.{Seen}
 use Rattle.reader_list.specs.Slots.{found_of, front_of, ack_of}

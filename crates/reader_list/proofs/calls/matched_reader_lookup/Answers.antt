@@ -9,5 +9,5 @@ pub returns : goal.returns
 returns c =
     let list = c.args.list.now in
     c.found_end.ensures
-        ∙ ap found_end (sym (all_folded seen_step c.loop-i.acc list c.loop-i.i c.loop-i-test.false) ∙ c.loop-i.invariant)
-        ∙ found_answers list c.args.id
+    ∙ ap found_end (sym (all_folded seen_step c.loop-i.acc list c.loop-i.i c.loop-i-test.false) ∙ c.loop-i.invariant)
+    ∙ found_answers list c.args.id

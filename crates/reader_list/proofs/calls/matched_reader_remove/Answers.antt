@@ -1,5 +1,5 @@
 -- `matched_reader_remove` meets its contract: one walk over the list, and at most one slot is stored. Assumes nothing.
-use Rattle.std.proofs.Common.{◌≡◌, List, refl, sym, ap, ◌∙◌, subst, arith}
+use Rattle.std.proofs.Common.{◌≡◌, List, sym, ap, ◌∙◌, subst, arith}
 use Rattle.numbers.specs.Promise.{Gives1}
 use Rattle.reader_list.specs.declared.heads.ReaderHead.{ReaderHead}
 use Rattle.reader_list.specs.declared.ends.Put.{Put}

@@ -9,5 +9,5 @@ returns c =
     let list = c.args.list.now in
     let none : c.loop-i.i ≡ 0 = omega arith in
     c.different_end.ensures
-        ∙ ap (λ (m : Met). m.different) (c.loop-i.invariant.1 ∙ ap (λ (i : ℕ). gone (drop i list)) none)
-        ∙ gone-different list
+    ∙ ap (λ (m : Met). m.different) (c.loop-i.invariant.1 ∙ ap (λ (i : ℕ). gone (drop i list)) none)
+    ∙ gone-different list

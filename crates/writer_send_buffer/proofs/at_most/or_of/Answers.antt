@@ -1,10 +1,8 @@
 -- `or_of` meets its contract. Assumes nothing.
-use Prim.Native.Nat.{◌-◌}
 use native.Mathlib.Omega.{arith}
 use Rattle.writer_send_buffer.proofs.AtMost.{or_more, four_more, four_end}
 use borrow.Author.Rules.{rules}
 use Rattle.writer_send_buffer.proofs.at_most.or_of.Goals as goal
-
 
 pub loop-i-preserved : goal.loop-i-preserved
 loop-i-preserved c =

@@ -3,7 +3,6 @@ use lib.ListN.{length}
 use Rattle.writer_send_buffer.proofs.AtMost.{Passed, Passed4}
 use Rattle.writer_send_buffer.proofs.at_most.or_of.Given as goal
 
-
 abbrev pub invariant-loop-i : goal.invariant-loop-i
 invariant-loop-i l = (l.i ≤ length l.s) × Passed4 l.s l.i l.a l.b l.c l.d
 

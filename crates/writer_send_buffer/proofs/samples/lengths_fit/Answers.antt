@@ -5,7 +5,6 @@ use native.Mathlib.Omega.{arith}
 use Rattle.writer_send_buffer.proofs.Ring.{fit_all, fit_one, fit_two}
 use Rattle.writer_send_buffer.proofs.samples.lengths_fit.Goals as goal
 
-
 pub returns-then-held-slots : goal.returns-then-held-slots
 returns-then-held-slots c = c.all_at_most.ensures ∙ fit_all _ _ c.args.from _ c.requires.some c.if-held-slots.true
 

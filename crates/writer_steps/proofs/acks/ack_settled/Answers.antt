@@ -2,7 +2,6 @@
 use Rattle.writer_steps.proofs.Settles.{ack_decided}
 use Rattle.writer_steps.proofs.acks.ack_settled.Goals as goal
 
-
 pub returns : goal.returns
 returns c =
     let args = c.args in

@@ -1,5 +1,5 @@
 -- `places` meets its contract: the rooms hold what is there already, up to i. Assumes nothing.
-use Prim.Native.Nat.{◌-◌, ◌<◌}
+use Prim.Native.Nat.{◌<◌}
 use mathlib.Core.Path.{ap, ◌∙◌}
 use native.Mathlib.Omega.{arith}
 use lib.ListN.{length, length-set}
@@ -9,7 +9,6 @@ use Rattle.writer_send_buffer.specs.Samples.{located_of}
 use Rattle.writer_steps.specs.Many.{located_start, start_for, length_for}
 use Rattle.writer_steps.proofs.Lies.{put_next}
 use Rattle.writer_steps.proofs.many.places.Goals as goal
-
 
 pub loop-i-preserved : goal.loop-i-preserved
 loop-i-preserved c =

@@ -4,7 +4,6 @@ use lib.Seq.{length-take-le}
 use Rattle.writer_steps.proofs.Lies.{refused_at, count_in, placeable_at, done_at}
 use Rattle.writer_steps.proofs.many.send_many.Goals as goal
 
-
 pub returns-then-answer-ne0 : goal.returns-then-answer-ne0
 returns-then-answer-ne0 c =
     let args = c.args in

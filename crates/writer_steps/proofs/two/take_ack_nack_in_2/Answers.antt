@@ -5,7 +5,6 @@ use lib.ListN.{length}
 use Rattle.writer_steps.proofs.Settles.{ack_in_2}
 use Rattle.writer_steps.proofs.two.take_ack_nack_in_2.Goals as goal
 
-
 pub returns : goal.returns
 returns c =
     let args = c.args in

@@ -3,7 +3,6 @@ use mathlib.Core.Path.{refl}
 use Rattle.writer_write.proofs.Parts.{coherent-is}
 use Rattle.writer_write.proofs.coherent.coherent_at.Goals as goal
 
-
 pub returns : goal.returns
 returns c =
     let a = c.args in

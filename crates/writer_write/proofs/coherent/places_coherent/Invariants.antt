@@ -9,7 +9,7 @@ abbrev pub invariant-loop-i : goal.invariant-loop-i
 invariant-loop-i l =
     (length l.proxies ≡ length l.initial.proxies)
     × (resumed (λ (r : SeenReader). r.coherent) (λ (r : SeenReader). r.proxy) coherent_at l.i l.acc l.proxies l.unsent l.i (length l.initial.proxies)
-        ≡ through (λ (r : SeenReader). r.coherent) (λ (r : SeenReader). r.proxy) coherent_at l.initial.acc l.initial.proxies l.initial.unsent 0 (length l.initial.proxies))
+    ≡ through (λ (r : SeenReader). r.coherent) (λ (r : SeenReader). r.proxy) coherent_at l.initial.acc l.initial.proxies l.initial.unsent 0 (length l.initial.proxies))
 
 abbrev pub decreases-loop-i : goal.decreases-loop-i
 decreases-loop-i l = length l.initial.proxies - l.i

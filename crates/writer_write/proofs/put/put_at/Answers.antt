@@ -2,7 +2,6 @@
 use Rattle.writer_write.proofs.Parts.{put-none, put-done}
 use Rattle.writer_write.proofs.put.put_at.Goals as goal
 
-
 pub returns-then-answer-ne0 : goal.returns-then-answer-ne0
 returns-then-answer-ne0 c =
     let a = c.args in

@@ -4,7 +4,6 @@ use native.Mathlib.Omega.{arith}
 use Rattle.writer_send_buffer.proofs.Sound.{coherent-is}
 use Rattle.writer_send_buffer.proofs.flow.WriterSendBuffer.is_coherent_store.Goals as goal
 
-
 pub lengths_fit-requires : goal.lengths_fit-requires
 lengths_fit-requires c =
     let args = c.args in

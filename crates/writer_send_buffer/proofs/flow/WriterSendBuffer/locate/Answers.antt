@@ -3,7 +3,6 @@ use mathlib.Core.Path.{sym, ◌∙◌}
 use Rattle.writer_send_buffer.proofs.Locating.{located_coherent}
 use Rattle.writer_send_buffer.proofs.flow.WriterSendBuffer.locate.Goals as goal
 
-
 pub returns : goal.returns
 returns c =
     let args = c.args in

@@ -32,7 +32,6 @@ module _ (f : WriterSendBuffer) (s l p : List ℕ) (o : Bool) where
         third = set l (slot_of (flow_view f) (rank_of f.last + 1)) (length p);
       }
 
-
 pub returns-then-answer-ne0 : goal.returns-then-answer-ne0
 returns-then-answer-ne0 c =
     let args = c.args in
