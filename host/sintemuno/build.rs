@@ -1,6 +1,6 @@
-//! Finds the proved library, `target/staticlib/libsintemuno.a` of this
+//! Finds the proved library, `crates/sintemuno/out/libsintemuno.a` of this
 //! repository, and links it. Where it isn't there, or a crate has changed since,
-//! `rt staticlib sintemuno` makes it: half a minute if the crates are proved
+//! `rt lib` in crates/sintemuno makes it: half a minute if the crates are proved
 //! already. SINTEMUNO_STATICLIB names another folder that has the archive;
 //! nothing is made then.
 
@@ -39,33 +39,50 @@ fn main() {
 
 /// The folder of the archive as this repository makes it.
 fn made(root: &Path) -> PathBuf {
-    let folder = root.join("target/staticlib");
+    let home = root.join("crates/sintemuno");
+    let folder = home.join("out");
     let archive = folder.join(ARCHIVE);
-    let sources = [root.join("crates"), root.join("crates.txt")];
+    let sources = match sources(root) {
+        Ok(sources) => sources,
+        Err(why) => give_up(&format!("the crates can't be read: {}", why)),
+    };
     for source in &sources {
         println!("cargo:rerun-if-changed={}", source.display());
     }
     if is_newer(&archive, &sources).unwrap_or(false) {
         return folder;
     }
-    let made = Command::new("rt")
-        .args(["staticlib", "sintemuno"])
-        .current_dir(root)
-        .output();
+    let made = Command::new("rt").arg("lib").current_dir(home).output();
     match made {
         Ok(output) if output.status.success() => {}
         Ok(output) => {
             eprint!("{}", String::from_utf8_lossy(&output.stdout));
             eprint!("{}", String::from_utf8_lossy(&output.stderr));
-            give_up("rt staticlib sintemuno didn't make the library");
+            give_up("rt lib in crates/sintemuno didn't make the library");
         }
         Err(_) => give_up(
             "no rt on PATH, and the library isn't made yet or a crate has changed since. The Rattle kit \
-             has rt, in its folder bin; where it is, this build makes the library itself (rt staticlib \
-             sintemuno). Or let SINTEMUNO_STATICLIB name a folder that has libsintemuno.a",
+             has rt, in its folder bin; where it is, this build makes the library itself (rt lib in \
+             crates/sintemuno). Or let SINTEMUNO_STATICLIB name a folder that has libsintemuno.a",
         ),
     }
     folder
+}
+
+/// What the archive is made of: the list of the crates, and what each has but
+/// what rt makes in its folder `out`.
+fn sources(root: &Path) -> io::Result<Vec<PathBuf>> {
+    let mut sources = vec![root.join("crates.txt")];
+    for entry in fs::read_dir(root.join("crates"))? {
+        let home = entry?.path();
+        for part in ["src", "specs", "proofs"] {
+            let part = home.join(part);
+            if part.is_dir() {
+                sources.push(part);
+            }
+        }
+    }
+    Ok(sources)
 }
 
 /// Whether the archive is there and no source was changed after it.

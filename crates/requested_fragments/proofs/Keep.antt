@@ -15,7 +15,7 @@ use Rattle.rising.specs.Runs.{rises_above, place_of, cut_out, over}
 use Rattle.rising.proofs.Rooms.{drop-take}
 use Rattle.requested_fragments.specs.Words.{fragments_of}
 use Rattle.requested_fragments.specs.Entries.{Entry, entries_from}
-use Rattle.requested_fragments.specs.Table.{Block, blocks_of, samples_in, words_in, from_t, blocks_view, table_of, entries_of, frag_rooms_coherent, rooms_hold, kept_in}
+use Rattle.requested_fragments.specs.Table.{Block, blocks_of, samples_in, words_in, from_t, blocks_view, table_of, entries_of, frag_rooms_coherent, rooms_hold, kept_from}
 use Rattle.requested_fragments.proofs.Blocks.{samples_of_lem, words_of, samples-length, d64}
 use Rattle.requested_fragments.proofs.Coherent.{is-coherent}
 use Rattle.requested_fragments.proofs.Laws.{fit}
@@ -23,12 +23,12 @@ use Rattle.requested_fragments.proofs.Meaning.{Full}
 use Rattle.requested_fragments.proofs.Form.{Fit, hold_t, coherent_fit, rising_tail, rising_weak, form_again}
 
 -- ---- in the rooms
-pub kept_same : (n count : ℕ) (S W : List ℕ) → rooms_hold count S W ≡ false → Gives2 count S W (kept_in n count S W)
+pub kept_same : (n count : ℕ) (S W : List ℕ) → rooms_hold count S W ≡ false → Gives2 count S W (kept_from n count S W)
 kept_same n count S W h = rw h (record { result = refl; first = refl; second = refl })
 
 -- where there is none, none goes
-pub kept-none : (n count : ℕ) (S W : List ℕ) → count ≡ 0 → Gives2 count S W (kept_in n count S W)
-kept-none n count S W z = subst (λ (c : ℕ). Gives2 c S W (kept_in n c S W)) (sym z) (rw (fit 0 S W (omega arith) (omega arith)) (record { result = refl; first = refl; second = refl }))
+pub kept-none : (n count : ℕ) (S W : List ℕ) → count ≡ 0 → Gives2 count S W (kept_from n count S W)
+kept-none n count S W z = subst (λ (c : ℕ). Gives2 c S W (kept_from n c S W)) (sym z) (rw (fit 0 S W (omega arith) (omega arith)) (record { result = refl; first = refl; second = refl }))
 
 module _ (n : ℕ) where
   from_samples : (ss ws : List ℕ) → samples_in (from_t n (blocks_of ss ws)) ≡ drop (place_of n ss) ss
@@ -61,7 +61,7 @@ module _ (n : ℕ) where
 
     pub kept-done : (k r : ℕ) (U Z : List ℕ) → k ≡ place_of n (take count S)
         → Z ≡ over W (count * 64) (cut_out 0 (k * 64) (take (count * 64) W)) → U ≡ over S count (cut_out 0 k (take count S)) → r ≡ length (cut_out 0 k (take count S))
-        → Gives2 r U Z (kept_in n count S W)
+        → Gives2 r U Z (kept_from n count S W)
     kept-done k r U Z e z u l =
         let c : count * 64 ≡ 64 * count = omega arith in
         let i : 0 + k * 64 ≡ 64 * place_of n (take count S) = omega arith in
@@ -137,9 +137,9 @@ module _ (n : ℕ) where
 
 -- it leaves rooms that pass the check, hold the entries of the samples from n on, and are as long
 pub kept_again : (count : ℕ) (S W : List ℕ) (n : ℕ) → frag_rooms_coherent count S W ≡ true
-    → (frag_rooms_coherent (kept_in n count S W).result (kept_in n count S W).first (kept_in n count S W).second ≡ true)
-    × (entries_of (kept_in n count S W).result (kept_in n count S W).first (kept_in n count S W).second ≡ entries_from n (entries_of count S W))
-    × (length (kept_in n count S W).first ≡ length S)
+    → (frag_rooms_coherent (kept_from n count S W).result (kept_from n count S W).first (kept_from n count S W).second ≡ true)
+    × (entries_of (kept_from n count S W).result (kept_from n count S W).first (kept_from n count S W).second ≡ entries_from n (entries_of count S W))
+    × (length (kept_from n count S W).first ≡ length S)
 kept_again count S W n h =
     let c = is-coherent count S W h in
     let t = table_of count S W in

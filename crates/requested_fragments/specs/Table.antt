@@ -108,8 +108,8 @@ abbrev pub marked_in : ℕ → ℕ → ℕ → List ℕ → List ℕ → Left2 �
 marked_in n f count samples words =
     cond (rooms_hold count samples words) (rooms_holding (mark_t n f (table_of count samples words)) count samples words) (same count samples words)
 
-abbrev pub kept_in : ℕ → ℕ → List ℕ → List ℕ → Left2 ℕ (List ℕ) (List ℕ)
-kept_in b count samples words =
+abbrev pub kept_from : ℕ → ℕ → List ℕ → List ℕ → Left2 ℕ (List ℕ) (List ℕ)
+kept_from b count samples words =
     cond (rooms_hold count samples words) (rooms_holding (from_t b (table_of count samples words)) count samples words) (same count samples words)
 
 -- the members of a set that can be asked for: 1 to 4,096

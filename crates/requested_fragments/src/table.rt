@@ -3,7 +3,7 @@ ghost use Rattle.std.specs.Prelude.{◌≡◌, not, ◌++◌, ◌+◌, ◌*◌, 
 ghost use Rattle.sets.specs.Sets.{empty};
 ghost use Rattle.numbers.specs.Promise.{Gives2};
 ghost use Rattle.requested_fragments.specs.Words.{fragments_of, not_asking};
-ghost use Rattle.requested_fragments.specs.Table.{frag_rooms_coherent, all_hold, table_of, entries_of, mark_t, marked_in, kept_in, next_piece_of};
+ghost use Rattle.requested_fragments.specs.Table.{frag_rooms_coherent, all_hold, table_of, entries_of, mark_t, marked_in, kept_from, next_piece_of};
 ghost use Rattle.requested_fragments.specs.Find.{index_of};
 
 use crate::bits;
@@ -104,7 +104,7 @@ pub fn mark_sent(samples: &mut [u64], words: &mut [u64], count: usize, n: u64, f
 
 // The blocks of the samples before n go. How many blocks there are.
 pub fn keep_from(samples: &mut [u64], words: &mut [u64], count: usize, n: u64) -> usize
-    ensures { Gives2 result samples.new words.new (kept_in n count samples.old words.old) }
+    ensures { Gives2 result samples.new words.new (kept_from n count samples.old words.old) }
 {
     if samples.len() < count {
         return count;

@@ -4,10 +4,9 @@ pub mod AtMost
 pub mod Ring
 pub mod Slots
 pub mod Sound
-pub mod Located
+pub mod Locating
 pub mod Steps
 pub mod Window
 pub mod Kept
-pub mod Cells
 pub mod Unique
 pub mod Coherent

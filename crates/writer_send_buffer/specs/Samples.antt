@@ -84,7 +84,7 @@ locate_of f room lens n =
     (λ no. record { answer = no; start = 0; length = 0 })
     (record { answer = done; start = slot_start (flow_view f) (rank_of n); length = get_or lens (slot_of (flow_view f) (rank_of n)) 0 })
 
--- the same with no look at the store, for one that was found coherent: there it is the same (`located_coherent`, proofs/Located.antt). It says something for any
+-- the same with no look at the store, for one that was found coherent: there it is the same (`located_coherent`, proofs/Locating.antt). It says something for any
 -- record and any lengths: where the limits or `count` lengths give the sample no slot, nothing is there
 abbrev pub has_place : Flow → ℕ → ℕ → Bool
 has_place f count n = retained n f && (eqb count f.limits.slots && (leb 1 f.limits.slots && (leb f.limits.slots most_slots && leb f.limits.slot_bytes most_slot_bytes)))

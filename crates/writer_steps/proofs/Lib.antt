@@ -7,5 +7,4 @@ pub mod Together
 pub mod Moves
 pub mod Asks
 pub mod Unique
-pub mod Cells
 pub mod StepsInPart

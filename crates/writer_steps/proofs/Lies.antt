@@ -33,7 +33,7 @@ use Rattle.writer_send_buffer.specs.Flow.{retained}
 use Rattle.writer_send_buffer.specs.Buffer.{flow_view, flow_coherent, fetched}
 use Rattle.writer_send_buffer.specs.Samples.{store_coherent, store_rows, slot_start, slot_of, locate_of}
 use Rattle.writer_send_buffer.proofs.Sound.{holds}
-use Rattle.writer_send_buffer.proofs.Located.{located_coherent}
+use Rattle.writer_send_buffer.proofs.Locating.{located_coherent}
 use Rattle.writer_steps.specs.declared.many.SentMany.{SentMany}
 use Rattle.writer_steps.specs.Many.{Gone, Sending, sending, no_start, starts_at, long_as, many_rows, most_of, many_left, send_many_of, gone_as, located_start, start_for, length_for, Placeable, emptied}
 use Rattle.writer_steps.proofs.Repeats.{sending-is}

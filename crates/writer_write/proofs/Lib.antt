@@ -1,5 +1,4 @@
 -- Laws that belong to no one function.
-pub mod Cells
 pub mod Parts
 pub mod Tells
 pub mod Walks
