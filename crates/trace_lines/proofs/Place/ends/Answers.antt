@@ -1,4 +1,4 @@
--- `Place::ends`. Assumes nothing.
+-- A place ends the line where nothing stands past it.
 use Rattle.trace_lines.proofs.LineLaws.{ends_is}
 use Rattle.trace_lines.proofs.Place.ends.Goals as goal
 

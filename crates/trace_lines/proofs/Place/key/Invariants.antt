@@ -1,3 +1,4 @@
+-- As many bytes of the key stand here as the loop has passed.
 use Prim.Native.Nat.{◌+◌, ◌-◌, ◌≤◌}
 use mathlib.Core.Path.{◌≡◌}
 use lib.ListN.{length, drop}

@@ -1,3 +1,4 @@
+-- One digit more: 19 digits fit 64 bits.
 use Prim.Native.Nat.{◌+◌, ◌-◌, ◌*◌}
 use mathlib.Core.Path.{sym, ◌∙◌}
 use native.Mathlib.Omega.{arith}

@@ -1,3 +1,4 @@
+-- The digits passed, 19 at most with those that may still come, stand in v.
 use Prim.Native.Nat.{◌+◌, ◌-◌, ◌*◌, ◌≤◌, ◌^◌}
 use mathlib.Core.Path.{◌≡◌}
 use lib.ListN.{length, drop}
