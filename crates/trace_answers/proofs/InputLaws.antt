@@ -1,20 +1,17 @@
 -- The steps of answering a piece of the input. Assumes nothing.
-use Prim.Native.Nat.{ℕ, zero, suc, ◌+◌, ◌<◌, ◌≤◌, min}
+use Prim.Native.Nat.{ℕ}
 use mathlib.Core.Path.{◌≡◌, refl, sym, ap, subst, ◌∙◌}
-use mathlib.Core.Bool.{Bool, true, false, not, cond}
+use mathlib.Core.Bool.{Bool, true, false, cond}
 use mathlib.Core.List.{List}
-use native.Mathlib.Omega.{arith}
-use lib.Dec.{eqb}
-use lib.ListN.{length, drop}
+use lib.ListN.{drop}
 use Rattle.numbers.specs.Promise.{Left1, Gives1, Gives3}
 use Rattle.trace_text.specs.declared.lines.Cut.{Cut}
 use Rattle.trace_text.specs.Cuts.{cut_of}
 use Rattle.trace_text.specs.Answers.{put_of}
-use Rattle.trace_readers.specs.declared.state.Trace.{Trace}
 use Rattle.trace_readers.specs.declared.state.Followed.{Followed}
 use Rattle.trace_answers.specs.declared.input.Answering.{Answering}
 use Rattle.trace_answers.specs.Shown.{follow_held, shown_text}
-use Rattle.trace_answers.specs.Input.{Left5, Gives5, Standing, next_line, held_now, with_cut, shown_by, answered_by, cut_by, answer_line}
+use Rattle.trace_answers.specs.Input.{Gives5, Standing, next_line, held_now, with_cut, shown_by, answered_by, cut_by, answer_line}
 
 -- the answer is put under the next number
 pub shown_as : (c : Cut) (f : Followed) (r : Answering) (out : List ℕ) (n k : ℕ) (u : List ℕ) → n ≡ next_line r.lines → Gives1 k u (put_of r.filled (shown_text n f) out)

@@ -1,5 +1,5 @@
 -- What a line of a piece comes to: what has been put, and what is to come, is the same before and after. Assumes nothing.
-use Prim.Native.Nat.{ℕ, zero, suc, ◌+◌, ◌-◌, ◌/◌, ◌%◌, ◌<◌, ◌≤◌, min}
+use Prim.Native.Nat.{ℕ, zero, suc, ◌+◌, ◌/◌, ◌%◌, ◌<◌, ◌≤◌, min}
 use mathlib.Core.Path.{◌≡◌, refl, sym, ap, subst, ◌∙◌}
 use mathlib.Core.Bool.{Bool, true, false, cond}
 use mathlib.Core.List.{List, [], ◌∷◌, ◌++◌, append-nil, append_assoc}
@@ -15,13 +15,10 @@ use Rattle.trace_lines.specs.Words.{bytes}
 use Rattle.trace_text.specs.declared.lines.Cut.{Cut}
 use Rattle.trace_text.specs.Cuts.{cut_of, line_in, ends_in, Holds}
 use Rattle.trace_text.specs.Answers.{put_of, digits, answer_text}
-use Rattle.trace_text.proofs.LineLaws.{held-line, held_long, cut_holds, cut_ended, holds-none}
+use Rattle.trace_text.proofs.LineLaws.{held-line, held_long, cut_holds, holds-none}
 use Rattle.trace_readers.specs.declared.state.Followed.{Followed}
-use Rattle.trace_readers.specs.State.{refused_by, not_understood}
-use Rattle.trace_run.specs.Follow.{no_room, follow_of}
-use Rattle.trace_answers.specs.declared.input.Answering.{Answering}
 use Rattle.trace_answers.specs.Shown.{follow_held, shown_text}
-use Rattle.trace_answers.specs.Input.{Left5, Standing, next_line, held_now, with_cut, answered_by, cut_by, answer_line}
+use Rattle.trace_answers.specs.Input.{Standing, next_line, held_now, with_cut, answered_by}
 use Rattle.trace_answers.specs.Text.{lines_from, TraceKept, follow_line, kept_by, answers_to, kept_in, has_put, to_come}
 
 -- the bytes past a line's end

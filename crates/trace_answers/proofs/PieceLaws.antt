@@ -1,7 +1,7 @@
 -- The lines of a piece, one after the other, as the loop goes. Assumes nothing.
-use Prim.Native.Nat.{ℕ, zero, suc, ◌+◌, ◌-◌, ◌<◌, ◌≤◌}
+use Prim.Native.Nat.{ℕ, zero, suc, ◌+◌, ◌<◌, ◌≤◌}
 use mathlib.Core.Path.{◌≡◌, refl, sym, ap, subst, ◌∙◌}
-use mathlib.Core.Bool.{Bool, true, false, cond, ◌&&◌, true≢false}
+use mathlib.Core.Bool.{Bool, true, false, cond, ◌&&◌}
 use mathlib.Core.List.{List}
 use native.Mathlib.Omega.{arith}
 use lib.ListN.{length, drop, length-drop}
@@ -12,7 +12,7 @@ use Rattle.trace_text.specs.Cuts.{cut_of}
 use Rattle.trace_text.proofs.CutLaws.{cut_goes}
 use Rattle.trace_answers.specs.declared.input.Answering.{Answering}
 use Rattle.trace_answers.specs.Shown.{follow_held}
-use Rattle.trace_answers.specs.Input.{Left5, Gives5, Standing, held_now, with_cut, answered_by, cut_by, answer_line, goes_on, answer_lines}
+use Rattle.trace_answers.specs.Input.{Gives5, Standing, held_now, with_cut, answered_by, cut_by, answer_line, goes_on, answer_lines}
 
 -- one line more
 abbrev pub one_more : List ℕ → Standing → Standing

@@ -2,7 +2,7 @@
 use Prim.Native.Nat.{ℕ, zero, suc, ◌+◌, ◌-◌, ◌<◌, ◌≤◌}
 use mathlib.Core.Path.{◌≡◌, refl, sym, ap, subst, ◌∙◌}
 use mathlib.Core.Bool.{Bool, true, false, not, cond, ◌&&◌, true≢false}
-use mathlib.Core.List.{List, [], ◌∷◌, ◌++◌, append-nil}
+use mathlib.Core.List.{List, [], ◌∷◌, ◌++◌}
 use native.Mathlib.Omega.{arith}
 use lib.Dec.{ltb, eqb}
 use lib.ListN.{length, take, drop}
@@ -12,9 +12,8 @@ use Rattle.numbers.specs.Promise.{Left1}
 use Rattle.trace_text.specs.declared.lines.Cut.{Cut}
 use Rattle.trace_text.specs.Cuts.{cut_of, line_in, ends_in, Holds}
 use Rattle.trace_text.proofs.LineLaws.{cut_ended, holds-none}
-use Rattle.trace_answers.specs.declared.input.Answering.{Answering}
 use Rattle.trace_answers.specs.Shown.{follow_held}
-use Rattle.trace_answers.specs.Input.{Left5, Standing, next_piece, nothing_waits, held_now, is_open, with_cut, answered_by, goes_on, answer_lines}
+use Rattle.trace_answers.specs.Input.{Standing, next_piece, nothing_waits, held_now, is_open, with_cut, answered_by, goes_on, answer_lines}
 use Rattle.trace_answers.specs.Text.{lines_from, answers_to, kept_in, has_put, to_come, turned, standing_with, comes_next, later, output, enough, text_of, standing_none}
 use Rattle.trace_answers.proofs.PieceLaws.{one_more, more_there, line_goes}
 use Rattle.trace_answers.proofs.LineMeaning.{Same, past_in, cut_past, ended_same, open_same}
@@ -106,12 +105,12 @@ record Ready (o : Standing) (l : List ℕ) : Type 0 where
   clear : o.result.filled ≡ 0
   room : 256 ≤ length o.second
 
-goes_on : (o : Standing) (l piece : List ℕ) → Ready o l → ltb o.result.cut.at (length piece) ≡ true → goes_on o.result piece o.second ≡ true
-goes_on o l piece h e = rw (e, lt-ltb 255 (length o.second - o.result.filled) (let a = h.room in let b = h.clear in omega arith))
+goes_on_lem : (o : Standing) (l piece : List ℕ) → Ready o l → ltb o.result.cut.at (length piece) ≡ true → goes_on o.result piece o.second ≡ true
+goes_on_lem o l piece h e = rw (e, lt-ltb 255 (length o.second - o.result.filled) (let a = h.room in let b = h.clear in omega arith))
 
 turn_further : (o : Standing) (l piece : List ℕ) → Ready o l → ltb o.result.cut.at (length piece) ≡ true → o.result.cut.at < (turned piece o).result.cut.at
 turn_further o l [] h e = absurd (true≢false (sym e ∙ le-ltb o.result.cut.at 0 (omega arith)))
-turn_further o l (b ∷ s) h e = further (length s) (b ∷ s) o (goes_on o l (b ∷ s) h e)
+turn_further o l (b ∷ s) h e = further (length s) (b ∷ s) o (goes_on_lem o l (b ∷ s) h e)
 
 -- what was put in a turn, and what is to come after it, was to come before it
 turn-same : (o : Standing) (l piece u : List ℕ) → Ready o l
@@ -167,7 +166,7 @@ newline k o l h = ap after taken ∙ ap (λ (x : List ℕ). has_put one ++ x) (i
     one = one_more (10 ∷ []) n
 
     taken : turned (10 ∷ []) n ≡ one
-    taken = ap (λ (b : Bool). cond b one n) (goes_on n l (10 ∷ []) ready refl)
+    taken = ap (λ (b : Bool). cond b one n) (goes_on_lem n l (10 ∷ []) ready refl)
 
     after : Standing → List ℕ
     after x = has_put x ++ output (suc k) (10 ∷ []) [] (standing_with (nothing_waits x.result) x)

@@ -1,11 +1,10 @@
 -- An input answered line by line, in whatever pieces it comes. Assumes nothing.
-use Rattle.std.specs.Prelude.{ℕ, zero, suc, ◌+◌, ◌-◌, min, ◌≡◌, Bool, true, false, not, cond, ◌&&◌, List, [], ◌∷◌, ◌++◌, ltb, eqb, length, drop}
+use Rattle.std.specs.Prelude.{ℕ, zero, suc, ◌+◌, ◌-◌, min, ◌≡◌, Bool, false, not, cond, ◌&&◌, List, ltb, eqb, length, drop}
 use Rattle.numbers.specs.Refusals.{done}
 use Rattle.numbers.specs.Promise.{Left1, Left3}
 use Rattle.trace_text.specs.declared.lines.Cut.{Cut}
 use Rattle.trace_text.specs.Cuts.{cut_of}
 use Rattle.trace_text.specs.Answers.{put_of}
-use Rattle.trace_readers.specs.declared.state.Trace.{Trace}
 use Rattle.trace_readers.specs.declared.state.Followed.{Followed}
 use Rattle.trace_readers.specs.State.{trace_begun, refused_by}
 use Rattle.trace_answers.specs.declared.input.Answering.{Answering}

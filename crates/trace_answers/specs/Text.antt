@@ -7,7 +7,7 @@ use Rattle.trace_readers.specs.State.{refused_by, not_understood}
 use Rattle.trace_run.specs.Follow.{no_room, follow_of}
 use Rattle.trace_answers.specs.declared.input.Answering.{Answering}
 use Rattle.trace_answers.specs.Shown.{shown_text}
-use Rattle.trace_answers.specs.Input.{Left5, Standing, answering_none, next_line, is_open, next_piece, nothing_waits, answer_piece}
+use Rattle.trace_answers.specs.Input.{Standing, answering_none, next_line, is_open, next_piece, nothing_waits, answer_piece}
 
 -- THE LINES OF A TEXT, cut at its newlines; a last one without a newline counts. l is what has come already of the first
 abbrev pub lines_from : List ℕ → List ℕ → List (List ℕ)

@@ -1,20 +1,16 @@
 -- Laws of keys and numbers, in the shapes that the loops ask for. Assumes nothing.
 use Prim.Native.Nat.{ℕ, zero, suc, ◌+◌, ◌-◌, ◌*◌, ◌^◌, ◌<◌, ◌≤◌}
 use mathlib.Core.Path.{◌≡◌, refl, sym, ap, ◌∙◌}
-use mathlib.Core.Bool.{Bool, true, false, cond, ◌&&◌}
-use mathlib.Core.List.{List, [], ◌∷◌, ◌++◌}
-use native.Mathlib.Numerals.{add-one}
-use native.Mathlib.Nat.{mul-le-mul_right, mul-le-mul_left, mul_assoc, pow-succ', mul-one, le_trans, add-sub_cancel}
+use mathlib.Core.Bool.{Bool, true, false, cond}
+use mathlib.Core.List.{List}
+use native.Mathlib.Nat.{mul-le-mul_right, mul-le-mul_left, mul_assoc, pow-succ', mul-one, le_trans}
 use native.Mathlib.Omega.{arith}
-use lib.Dec.{ltb, leb, eqb}
-use lib.ListN.{length, drop, get_or, drop_of_length-le}
-use lib.Seq.{drop-cons}
+use lib.Dec.{ltb, leb}
+use lib.ListN.{length, drop, get_or}
 use borrow.Author.Tests.{eq-eqb, ne_eqb, leb-true, ltb-true}
 use Rattle.sets.proofs.Loops.{here, done}
 use Rattle.sets.proofs.Bools.{and_left, and_right}
-use Rattle.trace_lines.specs.declared.Place.{Place}
-use Rattle.trace_lines.specs.declared.Number.{Number}
-use Rattle.trace_lines.specs.Words.{Rest, rest, bad, past_key, Read, nothing, is_digit, up_to63, digits_read, number_in, number_of, rest_of, not_anumber, number_to, read_of}
+use Rattle.trace_lines.specs.Words.{rest, bad, past_key, nothing, is_digit, up_to63, digits_read, not_anumber, number_to, read_of}
 
 -- ---- a key
 module _ (k s : List ℕ) (at j : ℕ) where

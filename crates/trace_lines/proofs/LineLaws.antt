@@ -1,14 +1,14 @@
 -- From the code's places and numbers to what a line says. Assumes nothing.
-use Prim.Native.Nat.{ℕ, ◌+◌, ◌-◌, ◌<◌, ◌≤◌}
+use Prim.Native.Nat.{ℕ, ◌<◌, ◌≤◌}
 use mathlib.Core.Path.{◌≡◌, refl, sym, ap, subst, ◌∙◌}
 use mathlib.Core.Bool.{Bool, true, false, cond, ◌&&◌, true≢false, false≢true}
-use mathlib.Core.List.{List, [], ◌∷◌, ◌++◌}
+use mathlib.Core.List.{List, []}
 use native.Mathlib.Nat.{sub-zero}
 use native.Mathlib.Omega.{arith}
 use lib.Dec.{leb}
-use lib.ListN.{length, drop, get_or, replicate}
+use lib.ListN.{length, drop, replicate}
 use borrow.Author.Tests.{leb-true, leb-false, le-leb, lt-leb}
-use Rattle.numbers.specs.Promise.{Left1, Gives1}
+use Rattle.numbers.specs.Promise.{Gives1}
 use Rattle.trace_lines.specs.declared.Place.{Place}
 use Rattle.trace_lines.specs.declared.Number.{Number}
 use Rattle.trace_lines.specs.declared.Pair.{Pair}
@@ -16,7 +16,7 @@ use Rattle.trace_lines.specs.declared.set.Listed.{Listed}
 use Rattle.trace_lines.specs.declared.command.Command.{Command}
 use Rattle.trace_lines.specs.declared.command.Command.TheVariants.{Unknown}
 use Rattle.trace_lines.specs.Words.{bytes, Rest, rest, bad, Read, field, Two, two, after_key, number_of, line_ended, rest_of, read_of, pair_of}
-use Rattle.trace_lines.specs.Sets.{Members, these, none, set_said, numbers_of, is_these, numbers_room, set_in}
+use Rattle.trace_lines.specs.Sets.{Members, these, none, set_said, numbers_room, set_in}
 use Rattle.trace_lines.specs.Lines.{Said, op_new, op_match, op_write, op_ack, op_sent, op_frag, op_evict, unknown, at_end, with_set, or_else, new_said, match_said, write_said, sent_said, evict_said, plain_said, ack_said, frag_said, said, command_of, numbers_in, command_left, is_known}
 use Rattle.sets.proofs.Loops.{here, done}
 

@@ -1,21 +1,20 @@
 -- Laws of sets in a line, in the shapes that the loop asks for. Assumes nothing.
-use Prim.Native.Nat.{ℕ, zero, suc, ◌+◌, ◌-◌, ◌<◌, ◌≤◌}
+use Prim.Native.Nat.{ℕ, suc, ◌+◌, ◌-◌, ◌<◌, ◌≤◌}
 use mathlib.Core.Path.{◌≡◌, refl, sym, ap, ◌∙◌}
 use mathlib.Core.Bool.{Bool, true, false, cond}
-use mathlib.Core.List.{List, [], ◌∷◌, ◌++◌, append_assoc, append-nil}
+use mathlib.Core.List.{List, [], ◌++◌, append_assoc, append-nil}
 use native.Mathlib.Numerals.{add-one}
 use native.Mathlib.Omega.{arith}
-use lib.Dec.{leb, eqb}
-use lib.ListN.{length, take, drop, get_or, set, replicate, length-append, length-replicate, get_or-replicate, length-take, length-drop, take-append-drop}
-use lib.Seq.{take-suc-set, length-take-le, take_at, take-suc, take_all, append_snoc, set_at, drop-drop}
+use lib.Dec.{leb}
+use lib.ListN.{length, take, drop, get_or, set, replicate, length-take, length-drop}
+use lib.Seq.{take-suc-set, length-take-le, take_at}
 use borrow.Author.Tests.{eq-eqb, ne_eqb, le-leb, lt-leb}
 use Rattle.sets.proofs.Loops.{here, done}
 use Rattle.numbers.specs.Promise.{Gives1}
-use Rattle.trace_lines.specs.declared.Place.{Place}
 use Rattle.trace_lines.specs.declared.Number.{Number}
 use Rattle.trace_lines.specs.declared.set.Listed.{Listed}
-use Rattle.trace_lines.specs.Words.{Rest, rest, bad, Read, number_in, rest_of, read_of}
-use Rattle.trace_lines.specs.Sets.{Members, these, none, also, after_number, listed_in, set_from, set_said, told_by, numbers_of, numbers_room, Listing, is_these, set_in}
+use Rattle.trace_lines.specs.Words.{number_in, read_of}
+use Rattle.trace_lines.specs.Sets.{Members, these, none, also, listed_in, told_by, numbers_of, numbers_room, Listing, is_these, set_in}
 
 -- the numbers p, and then ms
 abbrev pub prefixed : List ℕ → Members → Members

@@ -1,9 +1,9 @@
 -- What a line says: exactly one command, or nothing. Assumes nothing.
-use Rattle.std.specs.Prelude.{ℕ, Bool, true, false, cond, List, [], ◌∷◌, leb, length}
+use Rattle.std.specs.Prelude.{ℕ, Bool, true, false, cond, List, [], leb, length}
 use Rattle.numbers.specs.Promise.{Left1}
 use Rattle.trace_lines.specs.declared.command.Command.{Command}
 use Rattle.trace_lines.specs.declared.command.Command.TheVariants.{New, Match, Write, Ack, Sent, Frag, Evict, Unknown}
-use Rattle.trace_lines.specs.Words.{Rest, rest, bytes, after_key, Read, field, Two, two, line_ended}
+use Rattle.trace_lines.specs.Words.{Rest, rest, bytes, after_key, field, two, line_ended}
 use Rattle.trace_lines.specs.Sets.{Members, these, none, set_said, numbers_room}
 
 pub data Said : Type 0 where

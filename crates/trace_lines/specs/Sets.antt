@@ -2,7 +2,7 @@
 use Rattle.std.specs.Prelude.{ℕ, zero, suc, ◌+◌, ◌-◌, ◌≤◌, ◌≡◌, Bool, true, false, cond, List, [], ◌∷◌, ◌++◌, length, take, replicate, leb, eqb}
 use Rattle.numbers.specs.Promise.{Left1}
 use Rattle.trace_lines.specs.declared.set.Listed.{Listed}
-use Rattle.trace_lines.specs.Words.{Rest, rest, bad, Read, number_in}
+use Rattle.trace_lines.specs.Words.{Rest, rest, bad, number_in}
 
 pub data Members : Type 0 where
   these : List ℕ → Members

@@ -1,7 +1,7 @@
 -- What the words of a line say: keys and numbers. "Numbers are 1 to 19 digits, up to 2^63−1, no sign". Assumes nothing.
 use Rattle.std.specs.Prelude.{ℕ, zero, suc, ◌+◌, ◌-◌, ◌*◌, ◌<◌, ◌≡◌, Bool, true, false, cond, ◌&&◌, List, [], ◌∷◌, drop, ltb, leb, eqb}
 use Prim.Native.String.{String, [] as none, ◌∷◌ as cons}
-use Prim.Native.Char.{Char, code}
+use Prim.Native.Char.{code}
 use Rattle.trace_lines.specs.declared.Place.{Place}
 use Rattle.trace_lines.specs.declared.Number.{Number}
 use Rattle.trace_lines.specs.declared.Pair.{Pair}

@@ -1,14 +1,12 @@
 -- op=ack, from the calls to the line. Assumes nothing.
 use Prim.Native.Nat.{ℕ, ◌+◌, ◌-◌}
 use mathlib.Core.Path.{◌≡◌, refl, sym, ap, subst, ◌∙◌}
-use mathlib.Core.Bool.{Bool, true, false, cond, ◌&&◌}
-use mathlib.Core.List.{List, [], ◌∷◌, ◌++◌}
-use native.Mathlib.Omega.{arith}
-use lib.Dec.{eqb}
+use mathlib.Core.Bool.{Bool}
+use mathlib.Core.List.{List, ◌++◌}
 use lib.ListN.{length, take, drop}
 use borrow.Author.Tests.{eq-eqb, ne_eqb}
 use Rattle.numbers.specs.Number.{number_at}
-use Rattle.numbers.specs.Promise.{Left1, Left2, Gives1, Gives2}
+use Rattle.numbers.specs.Promise.{Gives2}
 use Rattle.numbers.specs.declared.sequence_number.SequenceNumber.{SequenceNumber}
 use Rattle.number_sets.specs.declared.sequence_number_set.SequenceNumberSet.{SequenceNumberSet}
 use Rattle.number_sets.specs.declared.sequence_number_set.WrittenNumbers.{WrittenNumbers}
@@ -22,7 +20,7 @@ use Rattle.writer_steps.specs.Two.{taken2}
 use Rattle.trace_readers.specs.declared.state.Trace.{Trace}
 use Rattle.trace_readers.specs.declared.state.Followed.{Followed}
 use Rattle.trace_readers.specs.State.{refused_by, incoherent, reader_in}
-use Rattle.trace_readers.specs.Rooms.{part, put, unsent_at, gaps_at}
+use Rattle.trace_readers.specs.Rooms.{part, unsent_at, gaps_at}
 use Rattle.trace_readers.proofs.Parts.{part_as, put_as}
 use Rattle.trace_readers.specs.Requests.{is_first, too_many, unless_too_many, asked_for, ack_part, ack_in_rooms, ack_followed_by, ack_followed, ack_line}
 

@@ -6,7 +6,7 @@ use mathlib.Core.List.{List, ◌++◌}
 use lib.ListN.{length, take, drop, get_or}
 use borrow.Author.Tests.{lt-ltb, le-ltb, eq-eqb, ne_eqb}
 use Rattle.numbers.specs.Number.{number_at, fragment_at}
-use Rattle.numbers.specs.Promise.{Left2, Gives2}
+use Rattle.numbers.specs.Promise.{Gives2}
 use Rattle.numbers.specs.declared.sequence_number.SequenceNumber.{SequenceNumber}
 use Rattle.numbers.specs.declared.fragment_number.FragmentNumber.{FragmentNumber}
 use Rattle.number_sets.specs.declared.fragment_number_set.FragmentNumberSet.{FragmentNumberSet}
@@ -20,7 +20,7 @@ use Rattle.writer_steps.specs.Frags.{nack_frag_of}
 use Rattle.trace_readers.specs.declared.state.Trace.{Trace}
 use Rattle.trace_readers.specs.declared.state.Followed.{Followed}
 use Rattle.trace_readers.specs.State.{refused_by, incoherent, reader_in, with_reader}
-use Rattle.trace_readers.specs.Rooms.{part, put, words_at, samples_at}
+use Rattle.trace_readers.specs.Rooms.{part, words_at, samples_at}
 use Rattle.trace_readers.specs.Requests.{is_first}
 use Rattle.trace_readers.specs.Fragments.{frag_set_with, last_in, frag_set_of, asked_of, asked_put, asked_by, frag_line}
 use Rattle.trace_readers.proofs.Parts.{part_as, put_as}

@@ -1,13 +1,13 @@
 -- op=sent, from the calls to the line. Assumes nothing.
 use Prim.Native.Nat.{ℕ, ◌+◌, ◌-◌}
-use mathlib.Core.Path.{◌≡◌, refl, sym, ap, subst, ◌∙◌}
+use mathlib.Core.Path.{◌≡◌, refl, ap, subst, ◌∙◌}
 use mathlib.Core.Bool.{Bool}
 use mathlib.Core.List.{List, ◌++◌}
 use lib.ListN.{length, take, drop}
 use borrow.Author.Tests.{eq-eqb, ne_eqb}
 use Rattle.numbers.specs.Number.{number_at}
 use Rattle.numbers.specs.Refusals.{done}
-use Rattle.numbers.specs.Promise.{Left1, Gives1}
+use Rattle.numbers.specs.Promise.{Gives1}
 use Rattle.numbers.specs.declared.answer.Answer.{Answer}
 use Rattle.numbers.specs.declared.sequence_number.SequenceNumber.{SequenceNumber}
 use Rattle.numbers.proofs.Refused.{gives1}
@@ -24,7 +24,7 @@ use Rattle.numbers.proofs.Answered.{step_refused, step-done}
 use Rattle.trace_readers.specs.declared.state.Trace.{Trace}
 use Rattle.trace_readers.specs.declared.state.Followed.{Followed}
 use Rattle.trace_readers.specs.State.{refused_by, incoherent, own_answer, trace_with_flow, reader_in, with_reader}
-use Rattle.trace_readers.specs.Rooms.{part, put, unsent_at}
+use Rattle.trace_readers.specs.Rooms.{part, unsent_at}
 use Rattle.trace_readers.specs.Requests.{is_first, sent_answers, not_sent, is_sent, sent_followed, sent_put, sent_for, sent_line}
 use Rattle.trace_readers.proofs.Parts.{part_as, put_as}
 

@@ -5,7 +5,6 @@ use Rattle.numbers.specs.Number.{number_at, fragment_at}
 use Rattle.numbers.specs.Promise.{Left2}
 use Rattle.numbers.specs.declared.sequence_number.SequenceNumber.{SequenceNumber}
 use Rattle.number_sets.specs.declared.fragment_number_set.FragmentNumberSet.{FragmentNumberSet}
-use Rattle.number_sets.specs.declared.fragment_number_set.WrittenFragments.{WrittenFragments}
 use Rattle.number_sets.specs.Calls.{of_fragments}
 use Rattle.reader_list.specs.declared.calls.Found.{Found}
 use Rattle.reader_list.specs.Slots.{found_of}

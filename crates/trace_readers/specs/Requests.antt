@@ -1,24 +1,17 @@
 -- The lines of one reader: what it acknowledges and asks for, and what was sent to it. Assumes nothing.
-use Rattle.std.specs.Prelude.{ℕ, ◌-◌, Bool, not, cond, ◌&&◌, ◌||◌, List, [], ◌∷◌, ltb, eqb, length, get_or, replicate}
-use Rattle.numbers.specs.Number.{number_at, fragment_at}
-use Rattle.numbers.specs.Refusals.{row, answer_of, is_done, done}
-use Rattle.numbers.specs.Promise.{Left1, Left2, Left3}
+use Rattle.std.specs.Prelude.{ℕ, Bool, cond, ◌&&◌, List, [], ◌∷◌, eqb, replicate}
+use Rattle.numbers.specs.Number.{number_at}
+use Rattle.numbers.specs.Refusals.{is_done, done}
+use Rattle.numbers.specs.Promise.{Left1, Left2}
 use Rattle.numbers.specs.declared.answer.Answer.{Answer}
 use Rattle.numbers.specs.declared.sequence_number.SequenceNumber.{SequenceNumber}
 use Rattle.number_sets.specs.declared.sequence_number_set.SequenceNumberSet.{SequenceNumberSet}
 use Rattle.number_sets.specs.declared.sequence_number_set.WrittenNumbers.{WrittenNumbers}
-use Rattle.number_sets.specs.declared.fragment_number_set.FragmentNumberSet.{FragmentNumberSet}
-use Rattle.number_sets.specs.Calls.{of_numbers, of_fragments}
-use Rattle.rtps_reader_proxy.specs.declared.proxy.ReaderProxy.{ReaderProxy}
-use Rattle.rtps_reader_proxy.specs.declared.proxy.Changed.{Changed}
+use Rattle.number_sets.specs.Calls.{of_numbers}
 use Rattle.rtps_reader_proxy.specs.Record.{unsent_coherent}
 use Rattle.rtps_reader_proxy.specs.Unsent.{marked_sent_of}
-use Rattle.rtps_reader_proxy.specs.Fragments.{frags_coherent, cannot_ask, frags_requested_of}
-use Rattle.reader_list.specs.declared.heads.ReaderHead.{ReaderHead}
 use Rattle.reader_list.specs.declared.calls.Found.{Found}
 use Rattle.reader_list.specs.Slots.{found_of}
-use Rattle.writer_send_buffer.specs.declared.flow.WriterSendBuffer.{WriterSendBuffer}
-use Rattle.writer_send_buffer.specs.declared.flow.Told.{Told}
 use Rattle.writer_send_buffer.specs.Buffer.{sent_of}
 use Rattle.writer_steps.specs.declared.two.AckTaken2.{AckTaken2}
 use Rattle.numbers.specs.Answers.{stepped}
@@ -27,7 +20,7 @@ use Rattle.writer_steps.specs.Two.{taken2}
 use Rattle.trace_readers.specs.declared.state.Trace.{Trace}
 use Rattle.trace_readers.specs.declared.state.Followed.{Followed}
 use Rattle.trace_readers.specs.State.{refused_by, incoherent, own_answer, trace_with_flow, reader_in, with_reader}
-use Rattle.trace_readers.specs.Rooms.{part, put, large_fits, small_fits, unsent_at, gaps_at, words_at, samples_at}
+use Rattle.trace_readers.specs.Rooms.{part, put, large_fits, small_fits, unsent_at, gaps_at}
 
 -- whether the reader stands in the first slot. One that isn't there counts so: what comes before 11 is found by the first reader's record
 abbrev pub is_first : Found → Bool

@@ -1,5 +1,5 @@
 -- The lent rooms, and the part of each that is one reader's. Assumes nothing.
-use Rattle.std.specs.Prelude.{ℕ, ◌+◌, ◌*◌, Bool, cond, ◌&&◌, List, ◌++◌, eqb, length, take, drop}
+use Rattle.std.specs.Prelude.{ℕ, ◌+◌, ◌*◌, Bool, cond, List, ◌++◌, eqb, length, take, drop}
 use Rattle.numbers.specs.Capacities.{most_unsent, most_gaps, most_frag_samples, sample_words, most_slots}
 
 -- n numbers of a room, from a on; and the room with others in their place

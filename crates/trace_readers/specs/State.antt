@@ -1,5 +1,5 @@
 -- What a trace keeps from line to line. Assumes nothing.
-use Rattle.std.specs.Prelude.{refl, ℕ, Bool, true, false, not, cond, List, [], ◌∷◌}
+use Rattle.std.specs.Prelude.{refl, Bool, true, false, not, cond, List, [], ◌∷◌}
 use Rattle.numbers.specs.Refusals.{answer_at, row, answer_of}
 use Rattle.numbers.specs.declared.answer.Answer.{Answer}
 use Rattle.rtps_reader_proxy.specs.declared.proxy.ReaderProxy.{ReaderProxy}

@@ -1,8 +1,8 @@
 -- A line, from the code's command to what the line says. Assumes nothing.
-use Prim.Native.Nat.{ℕ, ◌-◌, ◌≤◌, min}
+use Prim.Native.Nat.{ℕ, ◌-◌, min}
 use mathlib.Core.Path.{◌≡◌, refl, sym, ap, subst, ◌∙◌}
 use mathlib.Core.Bool.{Bool, true, false, cond}
-use mathlib.Core.List.{List, [], ◌∷◌, ◌++◌}
+use mathlib.Core.List.{List, [], ◌∷◌}
 use mathlib.Core.Logic.{⊎_elim}
 use native.Mathlib.Nat.{sub-zero}
 use native.Mathlib.Omega.{arith}
@@ -10,7 +10,7 @@ use lib.ListN.{length, take, replicate, length-append}
 use lib.Seq.{take_at}
 use types.Run.{OneOf}
 use denote.Enum.Declared.{tag_of}
-use Rattle.numbers.specs.Promise.{Left1, Left3, Gives1, Gives2, Gives3}
+use Rattle.numbers.specs.Promise.{Left3, Gives1, Gives2, Gives3}
 use Rattle.trace_lines.specs.declared.command.Command.{Command}
 use Rattle.trace_lines.specs.declared.command.Command.TheVariants.{New, Match, Write, Ack, Sent, Frag, Evict, Unknown}
 use Rattle.trace_lines.specs.contracts.command.Command.{the_type}

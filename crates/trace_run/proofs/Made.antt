@@ -1,5 +1,4 @@
 -- What a refused or an accepted op=new leaves. Assumes nothing.
-use Prim.Native.Nat.{ℕ}
 use mathlib.Core.Path.{◌≡◌, refl, sym, ap, ◌∙◌}
 use borrow.Author.Tests.{eq-eqb, ne_eqb}
 use Rattle.writer_send_buffer.specs.declared.flow.Moved.{Moved}

@@ -1,12 +1,12 @@
 -- op=write, from the calls to the line. Assumes nothing.
 use Prim.Native.Nat.{ℕ, ◌-◌, ◌*◌, min}
 use mathlib.Core.Path.{◌≡◌, refl, sym, ap, subst, ◌∙◌}
-use mathlib.Core.Bool.{Bool, false, cond, ◌&&◌}
+use mathlib.Core.Bool.{false}
 use mathlib.Core.List.{List, ◌++◌}
 use native.Mathlib.Nat.{sub-zero}
 use lib.ListN.{length, take, drop, get_or, replicate}
 use borrow.Author.Tests.{eq-eqb, ne_eqb}
-use Rattle.numbers.specs.Promise.{Left1, Left2, Gives1, Gives2}
+use Rattle.numbers.specs.Promise.{Left2, Gives1, Gives2}
 use Rattle.numbers.specs.declared.answer.Answer.{Answer}
 use Rattle.numbers.specs.declared.sequence_number.SequenceNumber.{SequenceNumber}
 use Rattle.rtps_reader_proxy.specs.declared.proxy.ReaderProxy.{ReaderProxy}

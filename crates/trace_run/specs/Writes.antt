@@ -1,17 +1,14 @@
 -- op=write len=: a sample admitted, and every reader that is there told its number. Assumes nothing.
 use Rattle.std.specs.Prelude.{ℕ, ◌*◌, min, Bool, false, cond, ◌&&◌, List, eqb, get_or, take, replicate}
 use Rattle.numbers.specs.Refusals.{is_done}
-use Rattle.numbers.specs.Promise.{Left1, Left2, Left3}
-use Rattle.numbers.specs.declared.answer.Answer.{Answer}
+use Rattle.numbers.specs.Promise.{Left1, Left2}
 use Rattle.numbers.specs.declared.sequence_number.SequenceNumber.{SequenceNumber}
 use Rattle.rtps_reader_proxy.specs.declared.proxy.ReaderProxy.{ReaderProxy}
-use Rattle.rtps_reader_proxy.specs.declared.proxy.Changed.{Changed}
 use Rattle.rtps_reader_proxy.specs.Record.{unsent_coherent}
 use Rattle.rtps_reader_proxy.specs.Unsent.{notified_of}
 use Rattle.reader_list.specs.declared.heads.ReaderHead.{ReaderHead}
 use Rattle.reader_list.specs.Slots.{free_slot}
 use Rattle.writer_send_buffer.specs.declared.flow.WriterSendBuffer.{WriterSendBuffer}
-use Rattle.writer_send_buffer.specs.declared.flow.Numbered.{Numbered}
 use Rattle.writer_send_buffer.specs.declared.samples.Admitted.{Admitted}
 use Rattle.writer_send_buffer.specs.Samples.{admit_of, handed}
 use Rattle.trace_readers.specs.declared.state.Trace.{Trace}

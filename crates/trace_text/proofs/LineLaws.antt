@@ -1,5 +1,5 @@
 -- What a cut comes to: the room holds the line's bytes, whatever the pieces were in which they came. Assumes nothing.
-use Prim.Native.Nat.{ℕ, suc, ◌+◌, ◌<◌, ◌≤◌, min}
+use Prim.Native.Nat.{ℕ, ◌+◌, ◌<◌, ◌≤◌, min}
 use mathlib.Core.Path.{◌≡◌, refl, sym, ap, subst, ◌∙◌}
 use mathlib.Core.Bool.{Bool, true, false, cond}
 use mathlib.Core.List.{List, [], ◌∷◌, ◌++◌, append-nil, append_assoc}
@@ -9,8 +9,6 @@ use lib.Dec.{eqb, ltb}
 use lib.ListN.{length, take, set, length-append, length-set}
 use lib.Seq.{take_all, take-append-le, take-suc-set, set_out}
 use borrow.Author.Tests.{ltb-true, ltb-false}
-use Rattle.numbers.specs.Promise.{Left1}
-use Rattle.trace_text.specs.declared.lines.Cut.{Cut}
 use Rattle.trace_text.specs.Cuts.{cut_of, line_in, ends_in, Holds}
 
 -- before a line's first byte
