@@ -19,7 +19,7 @@ use Rattle.rtps_reader_proxy.specs.declared.proxy.ReaderProxy.{ReaderProxy}
 use Rattle.writer_send_buffer.specs.declared.flow.WriterSendBuffer.{WriterSendBuffer}
 use Rattle.writer_send_buffer.specs.declared.flow.Numbered.{Numbered}
 use Rattle.writer_send_buffer.specs.declared.samples.Admitted.{Admitted}
-use Rattle.writer_send_buffer.specs.Flow.{admitted as flowAdmitted}
+use Rattle.writer_send_buffer.specs.Flow.{admitted as flow_admitted}
 use Rattle.writer_send_buffer.specs.Buffer.{numbered_no, flow_view, flow_form}
 use Rattle.writer_send_buffer.specs.Samples.{write_rows, admit_of, handed, with_bytes, slot_start, slot_of}
 use Rattle.writer_send_buffer.proofs.Sound.{written_is}
@@ -47,7 +47,7 @@ module _ (f : WriterSendBuffer) (store lens payload : List ℕ) (opted : Bool) w
       cond t
       (record {
         result = record { answer = done; number = number_at (rank_of f.last + 1) };
-        first = flow_form (flowAdmitted (flow_view f) opted);
+        first = flow_form (flow_admitted (flow_view f) opted);
         second = with_bytes store (slot_start (flow_view f) (rank_of f.last + 1)) payload;
         third = set lens (slot_of (flow_view f) (rank_of f.last + 1)) (length payload);
       })
