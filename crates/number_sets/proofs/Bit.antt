@@ -1,15 +1,14 @@
 -- One word's bits: those of a shifted word, of a word cut at a place, of a word with a bit set. Assumes nothing.
 use Prim.Native.Nat.{ℕ, zero, suc, ◌+◌, ◌-◌, ◌*◌, ◌/◌, ◌%◌, ◌^◌, ◌≤◌, ◌<◌}
 use mathlib.Core.Path.{◌≡◌, refl, sym, ap, subst, ◌∙◌}
-use mathlib.Core.Bool.{Bool, true, false, not, cond, ◌&&◌, ◌||◌}
+use mathlib.Core.Bool.{Bool, true, false, ◌&&◌}
 use mathlib.Core.Logic.{◌⊎◌, inl, inr}
 use lib.Dec.{eqb, ltb, leb}
-use lib.Bits.{bit_or, or_shr, or_mod}
-use lib.Pow.{pow_pos, pow-add, pow-lt, pow_mono, shl-shr, shl_exact, shr-shr, field, mod-mod-pow, mod-pow-add, shr_mod}
+use lib.Pow.{pow_pos, pow-add, pow_mono, shl-shr, shr-shr, field, mod-mod-pow, mod-pow-add}
 use lib.Count.{count_leading_zeros, leading_top}
 use native.Mathlib.Omega.{arith}
-use native.Mathlib.Nat.{div-one, div_self, div-eq_of_lt, div-eq_of_lt-le, mul-one, mul-mod_left, pow-suc, zero-div, lt_of_lt_of_le, mod-lt, mod-eq_of_lt, mul_assoc, div-mul-le_self, lt_of_le_of_lt}
-use borrow.Author.Tests.{eqb-true, eqb-false, eq-eqb, ne_eqb, ltb-true, ltb-false, leb-true, leb-false, le-leb, lt-leb, lt-ltb, le-ltb}
+use native.Mathlib.Nat.{div-eq_of_lt, div-eq_of_lt-le, mul-mod_left, pow-suc, zero-div, lt_of_lt_of_le, mod-lt, mod-eq_of_lt, mul_assoc, div-mul-le_self, lt_of_le_of_lt}
+use borrow.Author.Tests.{ltb-true, ltb-false, leb-true, leb-false, le-ltb}
 use Rattle.sets.proofs.Bools.{decide, and_no}
 use Rattle.number_sets.specs.Bits.{bit_of}
 use Rattle.number_sets.specs.Words.{BitsKept}

@@ -1,24 +1,22 @@
 -- Eight words and their bits: words are told apart by their bits, and those made from a test have the bits that it passes. Assumes nothing.
-use Prim.Native.Nat.{ℕ, zero, suc, ◌+◌, ◌-◌, ◌*◌, ◌/◌, ◌%◌, ◌^◌, ◌≤◌, ◌<◌, min, max}
+use Prim.Native.Nat.{ℕ, zero, suc, ◌+◌, ◌-◌, ◌*◌, ◌/◌, ◌%◌, ◌^◌, ◌≤◌, ◌<◌, min}
 use mathlib.Core.Path.{◌≡◌, refl, sym, ap, subst, ◌∙◌}
-use mathlib.Core.Bool.{Bool, true, false, not, cond, ◌&&◌, ◌||◌, true≢false}
-use mathlib.Core.List.{List, [], ◌∷◌}
+use mathlib.Core.Bool.{Bool, true, false, cond, ◌&&◌}
+use mathlib.Core.List.{List, ◌∷◌}
 use mathlib.Core.Logic.{◌⊎◌, inl, inr}
 use lib.Dec.{eqb, ltb, leb}
-use lib.ListN.{length, get_or, set, length-set, get_or-eq_default}
-use lib.Seq.{ext_get_or, get_or-set_same, get_or-set_other}
-use lib.Bits.{bit_or, or_shr, or_mod, or_lt}
-use lib.Pow.{pow-lt}
+use lib.ListN.{length, get_or, get_or-eq_default}
+use lib.Seq.{ext_get_or}
 use native.Mathlib.Omega.{arith}
 use native.Mathlib.Nat.{div-one, div-div-eq-div-mul, pow-succ', pow-suc, div-add-mod, div-lt_iff_lt-mul, zero-lt-suc}
-use borrow.Author.Tests.{eqb-true, eqb-false, eq-eqb, ne_eqb, ltb-true, ltb-false, leb-true, leb-false, le-leb, lt-leb, lt-ltb, le-ltb}
-use Rattle.sets.specs.Sets.{has, From, only, those, first_or}
+use borrow.Author.Tests.{eqb-true, eqb-false, eq-eqb, ne_eqb, ltb-true, ltb-false, leb-true, leb-false, le-leb, lt-ltb}
+use Rattle.sets.specs.Sets.{has, only, those}
 use Rattle.sets.proofs.Bools.{decide, and_no}
 use Rattle.sets.proofs.Has.{has-only, From-only}
 use Rattle.sets.proofs.Those.{From-those, has_those_is}
 use Rattle.sets.proofs.First.{first-is, first-none}
 use Rattle.number_sets.specs.Bits.{bit_of, bit_at, next_bit, word_of, words_of, eight_words}
-use Rattle.number_sets.proofs.Bit.{digit, digit_zero, digit_over}
+use Rattle.number_sets.proofs.Bit.{digit, digit_zero}
 
 -- eight words of 32 bits
 pub record Eight (ws : List ℕ) : Type 0 where

@@ -1,24 +1,24 @@
 -- What a set means, from OMG DDSI-RTPS 2.5, 8.3.5.5: its members are base + i for each bit i below the count that is set. Assumes nothing.
-use Prim.Native.Nat.{ℕ, zero, suc, ◌+◌, ◌-◌, ◌*◌, ◌/◌, ◌%◌, ◌^◌, ◌≤◌, ◌<◌, min, max}
-use mathlib.Core.Path.{◌≡◌, refl, sym, ap, subst, ◌∙◌}
-use mathlib.Core.Bool.{Bool, true, false, cond, ◌&&◌, ◌||◌, true≢false, false≢true}
+use Prim.Native.Nat.{ℕ, suc, ◌+◌, ◌-◌, ◌≤◌, ◌<◌, max}
+use mathlib.Core.Path.{◌≡◌, refl, sym, ap, ◌∙◌}
+use mathlib.Core.Bool.{Bool, true, false, cond, ◌&&◌, ◌||◌, false≢true}
 use mathlib.Core.List.{List, [], ◌∷◌}
 use mathlib.Core.Logic.{◌⊎◌, inl, inr}
 use native.Mathlib.Omega.{arith}
 use native.Mathlib.Nat.{le_trans}
 use lib.Dec.{leb, ltb, eqb}
 use lib.ListN.{length}
-use borrow.Author.Tests.{leb-true, leb-false, ltb-true, ltb-false, le-leb, lt-leb, lt-ltb, le-ltb, eqb-true, eqb-false}
-use Rattle.sets.specs.Sets.{has, From, union, only, between, those}
-use Rattle.sets.proofs.Bools.{decide, and_left, and_right, clash, and_no}
-use Rattle.sets.proofs.Has.{has-between, has-only, has-union, From-only, From-union, From-low, From_weak}
-use Rattle.sets.proofs.Ext.{ext, union_nil}
+use borrow.Author.Tests.{leb-true, ltb-true, le-leb, lt-ltb, eqb-true}
+use Rattle.sets.specs.Sets.{has, From, union, only, between}
+use Rattle.sets.proofs.Bools.{decide, and_left, and_right, and_no}
+use Rattle.sets.proofs.Has.{has-between, has-only, has-union, From-only, From-union, From-low}
+use Rattle.sets.proofs.Ext.{ext}
 use Rattle.sets.proofs.Those.{From-those, those-length}
 use Rattle.numbers.specs.declared.sequence_number.SequenceNumber.{SequenceNumber}
 use Rattle.numbers.specs.declared.fragment_number.FragmentNumber.{FragmentNumber}
 use Rattle.numbers.specs.Number.{rank_of}
 use Rattle.number_sets.specs.declared.sequence_number_set.SequenceNumberSet.{SequenceNumberSet}
-use Rattle.number_sets.specs.Bits.{NumberSet, bit_at, marked, members, eight_words, words_for, in_window, span}
+use Rattle.number_sets.specs.Bits.{NumberSet, bit_at, marked, members, words_for, in_window, span}
 use Rattle.number_sets.specs.Calls.{sequence_set, fragment_set, cut_set, joined_set, these_numbers, these_fragments}
 use Rattle.number_sets.proofs.Eight.{bit_of_lem}
 use Rattle.number_sets.proofs.Members.{has-marked, has-place}

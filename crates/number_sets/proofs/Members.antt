@@ -1,19 +1,19 @@
 -- The members of a set, place by place: what a cut and numbers that join leave, how many there are, which comes next. Assumes nothing.
-use Prim.Native.Nat.{ℕ, zero, suc, ◌+◌, ◌-◌, ◌*◌, ◌/◌, ◌%◌, ◌^◌, ◌≤◌, ◌<◌, min, max}
-use mathlib.Core.Path.{◌≡◌, refl, sym, ap, subst, ◌∙◌}
-use mathlib.Core.Bool.{Bool, true, false, not, cond, ◌&&◌, ◌||◌, true≢false}
-use mathlib.Core.List.{List, [], ◌∷◌, ◌++◌}
+use Prim.Native.Nat.{ℕ, ◌+◌, ◌-◌, ◌≤◌, ◌<◌, min}
+use mathlib.Core.Path.{◌≡◌, refl, sym, ap, ◌∙◌}
+use mathlib.Core.Bool.{Bool, true, false, ◌&&◌, ◌||◌, true≢false}
+use mathlib.Core.List.{List}
 use mathlib.Core.Logic.{◌⊎◌, inl, inr}
-use lib.Dec.{eqb, ltb, leb}
+use lib.Dec.{ltb, leb}
 use lib.ListN.{length}
 use native.Mathlib.Omega.{arith}
-use borrow.Author.Tests.{ltb-true, ltb-false, leb-true, leb-false, le-leb, lt-leb, lt-ltb, le-ltb}
-use Rattle.sets.specs.Sets.{has, From, union, only, between, those, empty, first_or}
-use Rattle.sets.proofs.Bools.{decide, and_left, and_right, clash, and_no, or_comm}
-use Rattle.sets.proofs.Has.{has-only, has-between, has-union, From-only}
+use borrow.Author.Tests.{ltb-true, ltb-false, leb-true, leb-false, le-leb, lt-ltb, le-ltb}
+use Rattle.sets.specs.Sets.{has, union, only, between, those, empty, first_or}
+use Rattle.sets.proofs.Bools.{decide, and_left, and_right, or_comm}
+use Rattle.sets.proofs.Has.{has-between, has-union, From-only}
 use Rattle.sets.proofs.Those.{From-those, has_those_is, those_shift}
 use Rattle.sets.proofs.First.{first-is, first-none, first_cases, empty-none, empty-some}
-use Rattle.number_sets.specs.Bits.{bit_of, bit_at, next_bit, marked, eight_words, words_for, in_window}
+use Rattle.number_sets.specs.Bits.{bit_at, next_bit, marked, eight_words, words_for, in_window}
 use Rattle.number_sets.proofs.Eight.{leb-same, ltb-same, words_same, bit_past, has_left, next_bit_none, next_bit_is}
 
 -- whether a place is a member

@@ -1,5 +1,5 @@
 -- Sets as RTPS writes them: a base, a bit count, and 32-bit words, the first bit highest; and the way back, from numbers to words. Assumes nothing.
-use Rattle.std.specs.Prelude.{ℕ, zero, suc, ◌+◌, ◌-◌, ◌*◌, ◌/◌, ◌%◌, ◌^◌, max, min, ◌<◌, ◌≡◌, Bool, true, false, cond, ◌&&◌, ◌||◌, List, [], ◌∷◌, eqb, leb, ltb, get_or}
+use Rattle.std.specs.Prelude.{ℕ, zero, suc, ◌+◌, ◌-◌, ◌*◌, ◌/◌, ◌%◌, ◌^◌, max, Bool, cond, List, [], ◌∷◌, eqb, leb, get_or}
 use Rattle.sets.specs.Sets.{has, only, between, those, first_or}
 
 -- a set of either kind, in natural numbers

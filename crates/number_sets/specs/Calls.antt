@@ -1,6 +1,6 @@
 -- What each call on a set answers. Assumes nothing.
-use Rattle.std.specs.Prelude.{ℕ, suc, ◌+◌, ◌-◌, ◌≤◌, ◌<◌, ◌^◌, max, min, ◌≡◌, refl, Bool, true, false, cond, ◌||◌, List, [], ◌∷◌, leb, ltb, pos, length, replicate}
-use Rattle.sets.specs.Sets.{has, union, between, empty, first_or}
+use Rattle.std.specs.Prelude.{ℕ, ◌+◌, ◌≤◌, ◌<◌, ◌^◌, max, refl, Bool, false, ◌||◌, List, [], ◌∷◌, leb, ltb, pos, length, replicate}
+use Rattle.sets.specs.Sets.{union, between, empty, first_or}
 use Rattle.numbers.specs.Capacities.{most_bits, top_acked}
 use Rattle.numbers.specs.declared.answer.Answer.{Answer}
 use Rattle.numbers.specs.Refusals.{Rows, row, done, unless}

@@ -1,5 +1,5 @@
 -- What is done with the words of a set, bit by bit. Assumes nothing.
-use Rattle.std.specs.Prelude.{ℕ, ◌+◌, ◌-◌, ◌^◌, ◌<◌, min, max, ◌≡◌, Bool, cond, ◌&&◌, ◌||◌, List, leb, ltb}
+use Rattle.std.specs.Prelude.{ℕ, ◌+◌, ◌-◌, ◌^◌, ◌<◌, min, max, ◌≡◌, cond, ◌&&◌, ◌||◌, List, leb, ltb}
 use Rattle.sets.specs.Sets.{has}
 use Rattle.number_sets.specs.declared.words.Bits.{Bits}
 use Rattle.number_sets.specs.Bits.{bit_of, bit_at, eight_words, in_window, span}

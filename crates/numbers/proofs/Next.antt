@@ -1,5 +1,5 @@
 -- A question for the next number: whatever isn't coherent gets 1, and else only the right number counts. Assumes nothing.
-use Prim.Native.Nat.{ℕ, ◌≤◌}
+use Prim.Native.Nat.{ℕ}
 use mathlib.Core.Path.{◌≡◌, refl, ap, ◌∙◌}
 use mathlib.Core.Bool.{Bool, true, false}
 use mathlib.Core.List.{List, [], ◌∷◌}

@@ -1,6 +1,6 @@
 -- From a signed 64-bit number, as the machine reads it back from its bits, to its natural number. Assumes nothing.
 use Prim.Native.Nat.{ℕ, suc, ◌+◌, ◌<◌, ◌-◌, ◌^◌, zero-le}
-use mathlib.Core.Path.{◌≡◌, refl, sym, ap, ◌∙◌}
+use mathlib.Core.Path.{◌≡◌, refl, sym, ◌∙◌}
 use mathlib.Core.Bool.{Bool, true, false, cond}
 use native.Mathlib.Nat.{lt_trans}
 use native.Mathlib.Omega.{arith}

@@ -1,5 +1,5 @@
 -- Document 01's table of capacities, in its order: what the calls test and the definitions name. Assumes nothing.
-use Rattle.std.specs.Prelude.{ℕ, ◌+◌, ◌*◌}
+use Rattle.std.specs.Prelude.{ℕ}
 
 -- "readers: 64"
 abbrev pub most_readers : ℕ

@@ -131,8 +131,8 @@ module _ (r : Reader) (v : Valid r) where
   by_frags_lem = λ i.
       with_acked (acked-is i) (with_unsent (take (length r.unsent) []) (with_gaps (prefix-is i) (take (length r.gaps) []) (with_frags (rooms_hold_lem 16 r.frags (entries_in_lem r v) v.frags-few i) r)))
 
-  by_both : by_both (proxy_of r) (unsent_room r) (gap_room r) ≡ seen_both r
-  by_both = λ i. with_acked (acked-is i) (with_unsent (room_take r.cap r.unsent i) (with_gaps (prefix-is i) (room_take 256 r.gaps i) (with_frags [] r)))
+  by_both_lem : by_both (proxy_of r) (unsent_room r) (gap_room r) ≡ seen_both r
+  by_both_lem = λ i. with_acked (acked-is i) (with_unsent (room_take r.cap r.unsent i) (with_gaps (prefix-is i) (room_take 256 r.gaps i) (with_frags [] r)))
 
   -- THE UNSENT NUMBERS
 
@@ -247,7 +247,7 @@ module _ (r : Reader) (v : Valid r) where
         let out = ack_out beside after (length (unsent_room r)) (length (gap_room r)) in
         let no : (negative (number_at z.base) || not (in_range (number_at last) top_number)) ≡ false = ap (λ (t : Bool). t || not (in_range (number_at last) top_number)) (at_least_0 z.base) ∙ ap not within in
         ap (λ (b : ℕ). out (fits && (unsent_coherent (proxy_of r) (unsent_room r) && gaps_coherent (proxy_of r) (gap_room r))) (negative (number_at z.base) || not (in_range (number_at last) top_number)) (rank_of (number_at last)) (record { base = b; count = z.count; words = z.words }) (by_both (proxy_of r) (unsent_room r) (gap_room r))) (rank_back z.base (omega (arith, top)))
-        ∙ ap (λ (x : Reader). out (fits && (unsent_coherent (proxy_of r) (unsent_room r) && gaps_coherent (proxy_of r) (gap_room r))) (negative (number_at z.base) || not (in_range (number_at last) top_number)) (rank_of (number_at last)) z x) by_both
+        ∙ ap (λ (x : Reader). out (fits && (unsent_coherent (proxy_of r) (unsent_room r) && gaps_coherent (proxy_of r) (gap_room r))) (negative (number_at z.base) || not (in_range (number_at last) top_number)) (rank_of (number_at last)) z x) by_both_lem
         ∙ ap (λ (k : ℕ). out (fits && (unsent_coherent (proxy_of r) (unsent_room r) && gaps_coherent (proxy_of r) (gap_room r))) (negative (number_at z.base) || not (in_range (number_at last) top_number)) k z (seen_both r)) last-is
         ∙ ap (λ (t : Bool). out t (negative (number_at z.base) || not (in_range (number_at last) top_number)) last z (seen_both r)) ok
         ∙ ap (λ (t : Bool). out true t last z (seen_both r)) no

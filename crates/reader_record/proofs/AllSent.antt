@@ -1,18 +1,18 @@
 -- From any record whose proxy and fragment rooms pass the check, the reader's own calls offer every requested fragment, once, and leave none requested.
 -- Assumes nothing.
-use Prim.Native.Nat.{ℕ, zero, suc, ◌+◌, ◌-◌, ◌*◌, ◌≤◌, ◌<◌}
+use Prim.Native.Nat.{ℕ, zero, suc, ◌≤◌}
 use mathlib.Core.Path.{◌≡◌, refl, sym, ap, subst, ◌∙◌}
-use mathlib.Core.Bool.{Bool, true, false, not, cond, ◌&&◌, ◌||◌}
+use mathlib.Core.Bool.{Bool, true, false, not, cond, ◌||◌}
 use mathlib.Core.List.{List, [], ◌∷◌}
 use native.Mathlib.Omega.{arith}
-use lib.Dec.{leb, ltb, eqb}
+use lib.Dec.{leb, eqb}
 use lib.ListN.{length}
-use borrow.Author.Tests.{leb-true, le-leb, lt-ltb, eq-eqb}
+use borrow.Author.Tests.{le-leb, lt-ltb, eq-eqb}
 use Rattle.sets.specs.Sets.{has, empty, only, first_or}
 use Rattle.sets.proofs.Bools.{and_left, and_right, and_both}
 use Rattle.sets.proofs.Has.{has-only}
 use Rattle.numbers.specs.Capacities.{top_number, top_fragment}
-use Rattle.numbers.specs.Number.{rank_of, in_range, number_at, fragment_at}
+use Rattle.numbers.specs.Number.{rank_of, number_at, fragment_at}
 use Rattle.numbers.specs.Refusals.{row, done, unless}
 use Rattle.numbers.specs.Cursor.{fragment_cursor_at, fragment_cursor_past}
 use Rattle.numbers.specs.Promise.{Left2}
@@ -22,7 +22,7 @@ use Rattle.numbers.specs.declared.fragment_number.FragmentNumber.{FragmentNumber
 use Rattle.numbers.proofs.Ranks.{rank_back}
 use Rattle.rising.proofs.Meaning.{rises_are}
 use Rattle.requested_fragments.specs.Entries.{Entry, samples_of, sent, next_sample, next_fragment, some}
-use Rattle.requested_fragments.specs.Table.{frag_rooms_coherent, entries_of, samples_room, words_room, marked_in}
+use Rattle.requested_fragments.specs.Table.{frag_rooms_coherent, samples_room, words_room, marked_in}
 use Rattle.requested_fragments.specs.Drain.{Piece, all_asked, DrainRun, offering, turns, times}
 use Rattle.requested_fragments.proofs.Drained.{drained, once}
 use Rattle.requested_fragments.proofs.Whole.{coherent_sound}
@@ -33,13 +33,12 @@ use Rattle.rtps_reader_proxy.specs.Parts.{count_frags}
 use Rattle.rtps_reader_proxy.specs.declared.proxy.ReaderProxy.{ReaderProxy}
 use Rattle.rtps_reader_proxy.specs.declared.proxy.Changed.{Changed}
 use Rattle.rtps_reader_proxy.specs.declared.fragments.NextFragRequested.{NextFragRequested}
-use Rattle.rtps_reader_proxy.specs.declared.fragments.Told.{Told}
 use Rattle.rtps_reader_proxy.specs.Reader.{Reader, frags_requested}
 use Rattle.rtps_reader_proxy.specs.Record.{proxy_coherent}
 use Rattle.rtps_reader_proxy.specs.Fragments.{frags_coherent, entries_in, frag_sent_of, next_frag_of}
-use Rattle.reader_record.specs.Play.{Played, play_ended, offers, onward, turn, play}
+use Rattle.reader_record.specs.Play.{Played, onward, turn, play}
 use Rattle.reader_record.specs.AllSent.{Drains}
-use Rattle.reader_record.proofs.Whole.{ProxyIs, proxy-is}
+use Rattle.reader_record.proofs.Whole.{proxy-is}
 
 -- what is offered is a sample number and a fragment number, which the answer can hold
 small : (es : List Entry) → EntriesValid es → (next_sample es ≤ top_number) × (next_fragment 1 es ≤ top_fragment)

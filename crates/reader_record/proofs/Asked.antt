@@ -1,16 +1,16 @@
 -- What is asked for, piece by piece: what a request and a piece marked sent make of it, and that the question for the next piece finds the smallest. Proved of
 -- the definitions that the promises cite. Assumes nothing.
-use Prim.Native.Nat.{ℕ, suc, ◌+◌, ◌≤◌, ◌<◌}
+use Prim.Native.Nat.{ℕ, suc, ◌≤◌, ◌<◌}
 use mathlib.Core.Path.{◌≡◌, refl, sym, ap, ◌∙◌}
-use mathlib.Core.Bool.{Bool, true, false, not, cond, ◌&&◌, ◌||◌, true≢false, false≢true}
+use mathlib.Core.Bool.{Bool, true, false, not, cond, ◌&&◌, ◌||◌, false≢true}
 use mathlib.Core.Logic.{◌⊎◌, inl, inr}
 use mathlib.Core.List.{List, [], ◌∷◌}
 use native.Mathlib.Omega.{arith}
 use lib.Dec.{leb, eqb}
 use borrow.Author.Tests.{leb-true, leb-false, le-leb, eqb-true, eqb-false, eq-eqb, ne_eqb}
-use Rattle.sets.specs.Sets.{has, From, union, without, only, empty, first_or}
-use Rattle.sets.proofs.Bools.{and_left, and_right, and_both, and_no, or_false, or_swap, or_assoc, or_right, decide, clash}
-use Rattle.sets.proofs.Has.{has-union, has-only, has-without, From-only, From-low}
+use Rattle.sets.specs.Sets.{has, union, without, only, first_or}
+use Rattle.sets.proofs.Bools.{and_left, and_right, and_no, or_swap, or_assoc, decide, clash}
+use Rattle.sets.proofs.Has.{has-union, has-only, has-without, From-only}
 use Rattle.sets.proofs.First.{first_cases}
 use Rattle.requested_fragments.specs.Entries.{Entry, entry, keep, requested_some, requested, sent, next_sample, next_fragment}
 use Rattle.requested_fragments.specs.Drain.{EntriesCoherent, is_asked}

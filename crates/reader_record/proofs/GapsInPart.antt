@@ -1,6 +1,6 @@
 -- The calls on the pending gap, lent the first k members of the room: each answers as if the whole were lent, and leaves the part of what it would leave then.
 -- Assumes nothing.
-use Prim.Native.Nat.{ℕ, ◌+◌, ◌≤◌}
+use Prim.Native.Nat.{ℕ, ◌≤◌}
 use mathlib.Core.Path.{◌≡◌, refl, sym, ap, ◌∙◌}
 use mathlib.Core.Bool.{Bool, true, false, not, cond, ◌&&◌, true≢false}
 use mathlib.Core.Logic.{◌⊎◌, inl, inr}

@@ -12,7 +12,7 @@ use lib.ListN.{length, take, drop, replicate, replicate-append-replicate}
 use lib.Seq.{length-take-le, take_at, drop_at, take-take}
 use borrow.Author.Tests.{le-leb, eqb-true}
 use Rattle.sets.proofs.Bools.{or_right}
-use Rattle.numbers.specs.Refusals.{answer_of, is_done, unless, Rows}
+use Rattle.numbers.specs.Refusals.{is_done}
 use Rattle.numbers.specs.Answers.{answered}
 use Rattle.numbers.specs.Promise.{Left1, Left2}
 use Rattle.numbers.specs.declared.answer.Answer.{Answer}

@@ -1,30 +1,28 @@
 -- Each step of the reader keeps it valid: coherence is kept by every accepted call. Assumes nothing.
-use Prim.Native.Nat.{ℕ, zero, suc, ◌+◌, ◌-◌, ◌*◌, ◌≤◌, ◌<◌, max}
+use Prim.Native.Nat.{ℕ, suc, ◌-◌, ◌≤◌, ◌<◌, max}
 use mathlib.Core.Path.{◌≡◌, refl, sym, ap, subst, ◌∙◌}
-use mathlib.Core.Bool.{Bool, true, false, not, cond, ◌&&◌, ◌||◌}
-use mathlib.Core.List.{List, [], ◌∷◌}
-use mathlib.Core.Logic.{◌⊎◌, inl, inr}
+use mathlib.Core.Bool.{Bool, true, false, not, cond, ◌&&◌}
+use mathlib.Core.List.{List}
 use native.Mathlib.Omega.{arith}
 use lib.Dec.{leb, ltb, eqb}
-use lib.ListN.{length, take, drop, length-drop}
-use borrow.Author.Tests.{leb-true, leb-false, le-leb, ltb-true, ltb-false, not-false}
-use Rattle.sets.specs.Sets.{From, has, empty, insert, union, only, between, without, smallest, largest}
-use Rattle.sets.proofs.Bools.{and_left, and_right, or_right, decide}
-use Rattle.sets.proofs.Has.{has-only, has-between, From-low, From-only, From_raise}
+use lib.ListN.{length, drop, length-drop}
+use borrow.Author.Tests.{leb-true, leb-false, le-leb, ltb-true, ltb-false}
+use Rattle.sets.specs.Sets.{From, has, empty, insert, only, between, smallest, largest}
+use Rattle.sets.proofs.Bools.{and_left, and_right, or_right}
+use Rattle.sets.proofs.Has.{has-only, From-low, From-only, From_raise}
 use Rattle.sets.proofs.Smallest.{smallest-few, largest-few, From-drop, has_drop_sub}
 use Rattle.numbers.specs.Capacities.{top_number}
-use Rattle.rising.specs.Runs.{rises_above}
 use Rattle.rising.proofs.Meaning.{Rising, rises_are, are_rising, rising_only, rising_smallest, rising_largest, rising_insert, rising_union, rising_sub}
 use Rattle.rising.proofs.Inserts.{insert_le}
 use Rattle.rising.proofs.Changes.{only_le}
 use Rattle.requested_fragments.specs.Entries.{Entry, samples_of, requested, sent}
-use Rattle.requested_fragments.specs.Table.{frag_rooms_coherent, entries_of, samples_room, words_room, asked_in, marked_in}
+use Rattle.requested_fragments.specs.Table.{entries_of, samples_room, words_room, asked_in, marked_in}
 use Rattle.requested_fragments.proofs.Meaning.{Within}
 use Rattle.requested_fragments.proofs.Form.{marked_again}
 use Rattle.requested_fragments.proofs.Both.{Valid as EntriesValid, rooms_pass, rooms_hold_lem, rooms_long, entries_valid}
 use Rattle.rtps_reader_proxy.specs.Reader.{Reader, fresh, with_unsent, with_gaps, with_frags, base_of, is_ahead, is_late, acked_after, staying, wanted, acknowledge, notified, marked_sent, removed_before, untaken, needs_room, gap_inserted, gap_up_to, needs_slot, frags_requested, frag_sent}
 use Rattle.rtps_reader_proxy.specs.Record.{room_for}
-use Rattle.reader_record.specs.Whole.{EachAsks, Valid}
+use Rattle.reader_record.specs.Whole.{Valid}
 use Rattle.rtps_reader_proxy.proofs.UnsentCalls.{untaken-is}
 use Rattle.rtps_reader_proxy.proofs.FragCalls.{request_again}
 use Rattle.reader_record.proofs.Whole.{entries_in_lem, asks_out}

@@ -1,16 +1,16 @@
 -- "The pending gap is the prefix and single members, all without numbers below A": what each step makes of it, number by number, and that the question for
 -- the next one finds the smallest. Proved of the definitions that the promises cite. Assumes nothing.
-use Prim.Native.Nat.{ℕ, suc, ◌+◌, ◌-◌, ◌≤◌, ◌<◌, max}
+use Prim.Native.Nat.{ℕ, suc, ◌-◌, ◌≤◌, ◌<◌, max}
 use mathlib.Core.Path.{◌≡◌, refl, sym, ap, ◌∙◌}
 use mathlib.Core.Bool.{Bool, true, false, not, cond, ◌&&◌, ◌||◌, true≢false, false≢true}
 use mathlib.Core.Logic.{◌⊎◌, inl, inr}
 use mathlib.Core.List.{List, [], ◌∷◌}
 use native.Mathlib.Omega.{arith}
 use lib.Dec.{leb, ltb, eqb}
-use borrow.Author.Tests.{leb-true, leb-false, le-leb, ltb-true, ltb-false, lt-ltb, eqb-true}
+use borrow.Author.Tests.{leb-true, leb-false, le-leb, ltb-false, lt-ltb, eqb-true}
 use Rattle.sets.specs.Sets.{has, From, insert, only, empty, first_or}
 use Rattle.sets.proofs.Bools.{and_left, and_right, and_both, or_false, or_right, decide, clash}
-use Rattle.sets.proofs.Has.{has-insert, has-only, From-only, From-low}
+use Rattle.sets.proofs.Has.{has-insert, has-only, From-only}
 use Rattle.sets.proofs.First.{empty-none, empty-some, first_cases}
 use Rattle.rising.proofs.Meaning.{rises_are}
 use Rattle.rtps_reader_proxy.specs.Reader.{Reader, acked_after, acknowledge, needs_room, gap_inserted, gap_up_to, in_pending_gap, next_gap}

@@ -1,16 +1,16 @@
 -- What a call that answers 0 does to the whole record is the reader's step: it leaves the form of the step's reader, which is valid. Assumes nothing.
-use Prim.Native.Nat.{ℕ, zero, suc, ◌+◌, ◌-◌, ◌*◌, ◌≤◌, ◌<◌, max}
+use Prim.Native.Nat.{ℕ, ◌≤◌, max}
 use mathlib.Core.Path.{◌≡◌, refl, sym, ap, subst, ◌∙◌}
-use mathlib.Core.Bool.{Bool, true, false, not, cond, ◌&&◌, ◌||◌, true≢false, false≢true}
+use mathlib.Core.Bool.{Bool, true, false, not, cond, ◌&&◌, ◌||◌, true≢false}
 use mathlib.Core.List.{List, [], ◌∷◌}
 use native.Mathlib.Omega.{arith}
-use lib.Dec.{leb, ltb, eqb}
-use lib.ListN.{length, take}
+use lib.Dec.{leb, ltb}
+use lib.ListN.{length}
 use borrow.Author.Tests.{eq-eqb, eqb-true, leb-true, ltb-false, not-false}
-use Rattle.sets.specs.Sets.{From, has, empty}
+use Rattle.sets.specs.Sets.{From}
 use Rattle.sets.proofs.Bools.{and_left, and_right, neither}
 use Rattle.numbers.specs.Capacities.{top_number}
-use Rattle.numbers.specs.Number.{rank_of, is_sample, in_range, negative, number_at}
+use Rattle.numbers.specs.Number.{rank_of, is_sample, in_range, negative}
 use Rattle.numbers.specs.Refusals.{Row, row, answer_of, done, is_done, unless, Rows}
 use Rattle.numbers.specs.Promise.{Left1, Left2, Gives1, Gives2}
 use Rattle.numbers.specs.declared.answer.Answer.{Answer}
@@ -25,7 +25,7 @@ use Rattle.number_sets.specs.Calls.{sequence_set, fragment_set}
 use Rattle.number_sets.proofs.Meaning.{members_rise}
 use Rattle.rising.specs.Runs.{room_of, filled}
 use Rattle.requested_fragments.specs.Entries.{Entry}
-use Rattle.requested_fragments.specs.Table.{samples_room, words_room, askable}
+use Rattle.requested_fragments.specs.Table.{samples_room, words_room}
 use Rattle.requested_fragments.proofs.Meaning.{Within}
 use Rattle.requested_fragments.proofs.AskForm.{askable-within, askable-rises}
 use Rattle.requested_fragments.proofs.OneForm.{Words}
@@ -34,14 +34,14 @@ use Rattle.rtps_reader_proxy.specs.declared.proxy.ReaderProxy.{ReaderProxy}
 use Rattle.rtps_reader_proxy.specs.declared.proxy.Changed.{Changed}
 use Rattle.rtps_reader_proxy.specs.declared.unsent.Taken.{Taken}
 use Rattle.rtps_reader_proxy.specs.declared.acks.AckNacked.{AckNacked}
-use Rattle.rtps_reader_proxy.specs.Reader.{Reader, with_unsent, with_gaps, with_frags, is_ahead, acknowledge, notified, marked_sent, removed_before, taken, untaken, needs_room, gap_inserted, gap_up_to, needs_slot, frags_requested, frag_sent}
-use Rattle.rtps_reader_proxy.specs.Record.{room_for, unsent_coherent, gaps_coherent, proxy_of, unsent_room, gap_room}
+use Rattle.rtps_reader_proxy.specs.Reader.{Reader, with_unsent, with_gaps, with_frags, acknowledge, notified, marked_sent, removed_before, taken, untaken, needs_room, gap_inserted, gap_up_to, needs_slot, frags_requested, frag_sent}
+use Rattle.rtps_reader_proxy.specs.Record.{room_for, unsent_coherent, gaps_coherent, proxy_of}
 use Rattle.rtps_reader_proxy.specs.Unsent.{by_unsent, unsent_by, notified_of, marked_sent_of, removed_before_of, taken_of}
 use Rattle.rtps_reader_proxy.specs.Gaps.{by_gaps, gaps_by, beyond, gap_inserted_of, gap_up_to_of}
 use Rattle.rtps_reader_proxy.specs.Fragments.{frags_coherent, by_frags, frags_by, cannot_ask, no_slot, frags_requested_of, frag_sent_of}
 use Rattle.rtps_reader_proxy.specs.Acks.{ack_rows, ack_nacked_of, ack_leaves}
 use Rattle.reader_record.specs.Whole.{Picture, record_coherent, record_view, record_form, Valid, Stands}
-use Rattle.rtps_reader_proxy.proofs.FragCalls.{CanAsk, can_ask}
+use Rattle.rtps_reader_proxy.proofs.FragCalls.{can_ask}
 use Rattle.reader_record.proofs.Whole.{same_picture, view_form, form_coherent, view_valid, unsent_long, gaps_long, samples_long, acked_back, prefix_back, unsent_back, gaps_back, frags_back}
 use Rattle.reader_record.proofs.Kept.{notified-valid, marked-valid, removed-valid, untaken-valid, inserted_valid, up_to_valid, acknowledged-valid, requested-valid, sent-valid}
 

@@ -1,31 +1,29 @@
 -- The reader record whole, and the reader that it stands for: a coherent picture is the form of its reader, and a valid reader is what its form shows.
 -- Assumes nothing.
-use Prim.Native.Nat.{ℕ, zero, suc, ◌+◌, ◌-◌, ◌*◌, ◌≤◌, ◌<◌, max}
-use mathlib.Core.Path.{◌≡◌, refl, sym, ap, subst, ◌∙◌}
-use mathlib.Core.Bool.{Bool, true, false, not, cond, ◌&&◌}
+use Prim.Native.Nat.{ℕ, ◌-◌, ◌≤◌, max}
+use mathlib.Core.Path.{◌≡◌, sym, ap, ◌∙◌}
+use mathlib.Core.Bool.{true, ◌&&◌}
 use mathlib.Core.List.{List, [], ◌∷◌}
 use native.Mathlib.Omega.{arith}
-use lib.Dec.{leb, ltb, eqb}
-use lib.ListN.{length, take, length-take}
+use lib.Dec.{leb, eqb}
+use lib.ListN.{length}
 use lib.Seq.{length-take-le}
 use borrow.Author.Tests.{leb-true, le-leb, eqb-true, eq-eqb}
-use Rattle.sets.specs.Sets.{From, has, empty}
 use Rattle.sets.proofs.Bools.{and_left, and_right, and_both}
 use Rattle.sets.proofs.Has.{From-low}
-use Rattle.numbers.specs.Capacities.{top_number, top_fragment}
+use Rattle.numbers.specs.Capacities.{top_number}
 use Rattle.numbers.specs.Number.{rank_of, in_range, number_at}
-use Rattle.numbers.specs.declared.sequence_number.SequenceNumber.{SequenceNumber}
 use Rattle.numbers.proofs.Ranks.{rank_back, range_back, range_of, in_range_lem}
-use Rattle.rising.specs.Runs.{rises_above, run_coherent, room_of}
+use Rattle.rising.specs.Runs.{run_coherent, room_of}
 use Rattle.rising.proofs.Meaning.{Rising, rises_are, are_rising, room_take, room-length, room_ok, room-is}
-use Rattle.requested_fragments.specs.Entries.{Entry, samples_of}
-use Rattle.requested_fragments.specs.Table.{frag_rooms_coherent, entries_of, samples_room, words_room}
+use Rattle.requested_fragments.specs.Entries.{Entry}
+use Rattle.requested_fragments.specs.Table.{frag_rooms_coherent, samples_room, words_room}
 use Rattle.requested_fragments.proofs.OneForm.{Words}
 use Rattle.requested_fragments.proofs.Both.{Valid as EntriesValid, Asks, rooms_pass, rooms_hold_lem, rooms_long, entries_valid, rooms_are}
 use Rattle.rtps_reader_proxy.specs.declared.proxy.ReaderProxy.{ReaderProxy}
 use Rattle.rtps_reader_proxy.specs.Reader.{Reader}
 use Rattle.rtps_reader_proxy.specs.Record.{proxy_coherent, unsent_coherent, gaps_coherent, gap_floor, proxy_of, unsent_room, gap_room}
-use Rattle.rtps_reader_proxy.specs.Fragments.{frags_coherent, entries_in}
+use Rattle.rtps_reader_proxy.specs.Fragments.{frags_coherent}
 use Rattle.reader_record.specs.Whole.{Picture, rooms_whole, rooms_coherent, record_coherent, record_view, record_form, EachAsks, Valid}
 use Rattle.rtps_reader_proxy.proofs.UnsentCalls.{UnsentIs, unsent-is}
 use Rattle.rtps_reader_proxy.proofs.GapCalls.{GapsAre, gaps_are}

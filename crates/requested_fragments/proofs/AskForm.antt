@@ -1,22 +1,22 @@
 -- A request leaves a record that passes the check, and holds what it held and what was asked for. Assumes nothing.
-use Prim.Native.Nat.{ℕ, zero, suc, ◌+◌, ◌-◌, ◌*◌, ◌≤◌, ◌<◌}
+use Prim.Native.Nat.{ℕ, ◌≤◌, ◌<◌}
 use mathlib.Core.Path.{◌≡◌, refl, sym, ap, subst, ◌∙◌}
 use mathlib.Core.Bool.{Bool, true, false, not, cond, ◌||◌, ◌&&◌, true≢false, false≢true}
-use mathlib.Core.List.{List, [], ◌∷◌, ◌++◌}
+use mathlib.Core.List.{List, [], ◌∷◌}
 use native.Mathlib.Omega.{arith}
 use lib.Dec.{eqb, ltb, leb}
-use lib.ListN.{length, take, drop, replicate, length-replicate}
+use lib.ListN.{length, replicate}
 use borrow.Author.Tests.{leb-true, leb-false, lt-ltb, le-ltb, le-leb, eq-eqb, ne_eqb, eqb-true, eqb-false}
-use Rattle.sets.specs.Sets.{has, From, empty, union, only, between, insert}
+use Rattle.sets.specs.Sets.{has, From, empty, union, only, insert}
 use Rattle.sets.proofs.Ext.{ext}
 use Rattle.sets.proofs.Has.{has-union, has-only, has-between, From-only, From-low, From_raise}
-use Rattle.sets.proofs.Bools.{and_left, and_right, and_both, and_no, decide}
+use Rattle.sets.proofs.Bools.{and_left, and_right, and_no, decide}
 use mathlib.Core.Logic.{◌⊎◌, inl, inr}
 use Rattle.requested_fragments.specs.Words.{fragments_of}
-use Rattle.rising.specs.Runs.{rises_above, over}
+use Rattle.rising.specs.Runs.{rises_above}
 use Rattle.numbers.specs.Capacities.{top_number}
 use Rattle.requested_fragments.specs.Entries.{Entry, requested_some, requested, samples_of}
-use Rattle.requested_fragments.specs.Table.{Block, blocks_of, samples_in, ask_t, ask_all, askable, table_of, entries_of, frag_rooms_coherent, rooms_hold, asked_in}
+use Rattle.requested_fragments.specs.Table.{Block, samples_in, ask_t, ask_all, askable, table_of, entries_of, frag_rooms_coherent, rooms_hold, asked_in}
 use Rattle.number_sets.specs.declared.fragment_number_set.FragmentNumberSet.{FragmentNumberSet}
 use Rattle.number_sets.specs.Bits.{members}
 use Rattle.number_sets.specs.Calls.{fragment_set}

@@ -1,11 +1,9 @@
 -- What asking leaves in the words. Assumes nothing.
-use Prim.Native.Nat.{ℕ, zero, suc, ◌+◌, ◌-◌, ◌*◌, ◌/◌, ◌%◌, ◌^◌, ◌≤◌, ◌<◌, min, max}
+use Prim.Native.Nat.{ℕ, ◌+◌, ◌-◌, ◌≤◌, max}
 use mathlib.Core.Path.{◌≡◌, refl, sym, ap, subst, ◌∙◌}
-use mathlib.Core.Bool.{Bool, true, false, not, cond}
-use mathlib.Core.List.{List, [], ◌∷◌, ◌++◌, append-nil, append_assoc}
-use lib.Dec.{eqb, ltb, leb}
-use lib.ListN.{length, take, drop, get_or, set, replicate, length-append, length-take, length-drop, length-replicate, take-append-drop, length-set}
-use lib.Seq.{take-add, drop-drop, take-take, length-take-le, take_at, drop_at, take_all}
+use mathlib.Core.List.{List, [], ◌∷◌, ◌++◌, append_assoc}
+use lib.ListN.{length, take, drop, replicate, length-append, length-take, length-drop, length-replicate}
+use lib.Seq.{drop-drop, take-take, length-take-le, take_at, drop_at, take_all}
 use Rattle.numbers.specs.Promise.{Gives1}
 use Rattle.rising.specs.Runs.{in_room, opened_within}
 use Rattle.requested_fragments.proofs.Laws.{in_run}
@@ -13,7 +11,6 @@ use native.Mathlib.Omega.{arith}
 use Rattle.requested_fragments.specs.Words.{asking}
 use Rattle.requested_fragments.proofs.Frags.{asking-length}
 use Rattle.rising.specs.Runs.{over}
-use Rattle.rising.proofs.Rooms.{drop-take}
 use Rattle.requested_fragments.specs.Table.{ask_all}
 
 pub ask_all-length : (ms ws : List ℕ) → length (ask_all ms ws) ≡ length ws

@@ -1,21 +1,19 @@
 -- The table in two rooms: what marking leaves there. Assumes nothing.
-use Prim.Native.Nat.{ℕ, zero, suc, ◌+◌, ◌-◌, ◌*◌, ◌≤◌, ◌<◌, min, max}
-use mathlib.Core.Path.{◌≡◌, refl, sym, ap, subst, ◌∙◌}
-use mathlib.Core.Bool.{Bool, true, false, not, cond, ◌&&◌}
-use mathlib.Core.List.{List, [], ◌∷◌, ◌++◌, append-nil, append_assoc}
-use lib.Dec.{eqb, ltb, leb}
-use lib.ListN.{length, take, drop, get_or, replicate, length-append, length-take, length-drop, length-replicate, take-append-drop, length-set}
-use lib.Seq.{take-add, drop-drop, take-take, length-take-le, take_at, drop_at, take-append-le, drop-append-add}
+use Prim.Native.Nat.{ℕ, suc, ◌+◌, ◌-◌, ◌*◌, ◌≤◌, ◌<◌}
+use mathlib.Core.Path.{◌≡◌, refl, sym, ap, ◌∙◌}
+use mathlib.Core.Bool.{Bool, true, false, not, ◌&&◌}
+use mathlib.Core.List.{List, [], ◌∷◌, ◌++◌, append_assoc}
+use lib.Dec.{eqb}
+use lib.ListN.{length, take, drop}
+use lib.Seq.{take-add, drop-drop}
 use native.Mathlib.Omega.{arith}
-use borrow.Author.Tests.{eqb-true, eqb-false, eq-eqb, ne_eqb}
 use Rattle.sets.proofs.Bools.{and_assoc, and_yes}
-use Rattle.sets.specs.Sets.{has, empty}
-use Rattle.requested_fragments.specs.Words.{fragments_of, asking, not_asking}
-use Rattle.rising.specs.Runs.{over}
+use Rattle.sets.specs.Sets.{empty}
+use Rattle.requested_fragments.specs.Words.{fragments_of, not_asking}
 use Rattle.requested_fragments.specs.Find.{index_of}
-use Rattle.rising.proofs.Rooms.{drop-take, back, room-same}
+use Rattle.rising.proofs.Rooms.{drop-take}
 use Rattle.requested_fragments.proofs.Cases.{by_bool}
-use Rattle.requested_fragments.specs.Table.{Block, blocks_of, samples_in, words_in, mark_t, ask_t, ask_all, all_hold}
+use Rattle.requested_fragments.specs.Table.{Block, blocks_of, samples_in, words_in, mark_t, all_hold}
 
 -- ---- 64 words more
 pub t64 : (x : ℕ) (ws : List ℕ) → take (64 * suc x) ws ≡ take 64 ws ++ take (64 * x) (drop 64 ws)

@@ -1,25 +1,25 @@
 -- Entries in rooms, and back: the rooms that pass the check are those of their entries, and entries that are valid are those of their rooms. Assumes nothing.
-use Prim.Native.Nat.{ℕ, zero, suc, ◌+◌, ◌-◌, ◌*◌, ◌/◌, ◌%◌, ◌^◌, ◌≤◌, ◌<◌}
+use Prim.Native.Nat.{ℕ, suc, ◌-◌, ◌*◌, ◌/◌, ◌%◌, ◌^◌, ◌≤◌, ◌<◌}
 use mathlib.Core.Path.{◌≡◌, refl, sym, ap, subst, ◌∙◌}
-use mathlib.Core.Bool.{Bool, true, false, not, cond, ◌&&◌, ◌||◌}
+use mathlib.Core.Bool.{Bool, true, false, not, cond, ◌&&◌}
 use mathlib.Core.Logic.{◌⊎◌, inl, inr}
-use mathlib.Core.List.{List, [], ◌∷◌, ◌++◌}
+use mathlib.Core.List.{List, [], ◌∷◌}
 use native.Mathlib.Omega.{arith}
-use lib.Dec.{eqb, ltb, leb}
-use lib.ListN.{length, take, drop, get_or, set, replicate, get_or-replicate, length-replicate, length-set, get_or-eq_default}
+use lib.Dec.{eqb, ltb}
+use lib.ListN.{length, take, get_or, set, replicate, get_or-replicate, length-replicate, get_or-eq_default}
 use lib.Seq.{get_or-set_same, get_or-set_other, set_out}
 use lib.Bits.{bit_or, or_lt}
 use lib.Pow.{pow-lt}
 use borrow.Author.Tests.{eqb-true, eqb-false, ltb-true, ltb-false}
-use Rattle.sets.specs.Sets.{has, From, empty, insert, without}
+use Rattle.sets.specs.Sets.{From, empty, without}
 use Rattle.sets.proofs.Bools.{decide, and_both}
 use Rattle.rising.specs.Runs.{rises_above, room_of}
 use Rattle.rising.proofs.Meaning.{room-length}
 use Rattle.requested_fragments.specs.Words.{fragments_of, asking}
-use Rattle.requested_fragments.specs.Entries.{Entry, requested_some, sent, samples_of}
+use Rattle.requested_fragments.specs.Entries.{Entry, sent, samples_of}
 use Rattle.requested_fragments.specs.Table.{Block, samples_in, words_in, blocks_view, table_of, entries_of, frag_rooms_coherent, ask_all, blocks_for, samples_room, words_room}
 use Rattle.requested_fragments.proofs.Asking.{ask_all-length}
-use Rattle.requested_fragments.proofs.Coherent.{Coherent, is-coherent, coherent-is}
+use Rattle.requested_fragments.proofs.Coherent.{is-coherent, coherent-is}
 use Rattle.requested_fragments.proofs.Meaning.{Full, Within, ask_all_new}
 use Rattle.requested_fragments.proofs.Form.{Fit, hold_t, words-length, form_coherent, form_table, coherent_fit}
 use Rattle.requested_fragments.proofs.OneForm.{Words, Bounded, tables, bounded, is_form}

@@ -1,12 +1,12 @@
 -- What the check of the rooms says, part by part. Assumes nothing.
 use Prim.Native.Nat.{ℕ, ◌*◌, ◌≤◌}
-use mathlib.Core.Path.{◌≡◌, refl, sym, ap, ◌∙◌}
-use mathlib.Core.Bool.{Bool, true, false, ◌&&◌}
+use mathlib.Core.Path.{◌≡◌}
+use mathlib.Core.Bool.{true, ◌&&◌}
 use mathlib.Core.List.{List}
 use lib.Dec.{leb, eqb}
 use lib.ListN.{length, take, drop}
 use borrow.Author.Tests.{leb-true, le-leb, eqb-true, eq-eqb}
-use Rattle.sets.proofs.Bools.{and_left, and_right, and_both}
+use Rattle.sets.proofs.Bools.{and_left, and_right}
 use Rattle.rising.specs.Runs.{rises_above, zeros, run_coherent}
 use Rattle.requested_fragments.specs.Table.{all_hold, frag_rooms_coherent}
 

@@ -1,14 +1,13 @@
 -- One bit of a word: what a set bit and a turned bit leave. Assumes nothing.
-use Prim.Native.Nat.{ℕ, zero, suc, ◌+◌, ◌-◌, ◌*◌, ◌/◌, ◌%◌, ◌^◌, ◌≤◌, ◌<◌}
-use mathlib.Core.Path.{◌≡◌, refl, sym, ap, subst, ◌∙◌}
+use Prim.Native.Nat.{ℕ, ◌*◌, ◌/◌, ◌%◌, ◌^◌, ◌<◌}
+use mathlib.Core.Path.{◌≡◌, refl, ap, ◌∙◌}
 use mathlib.Core.Bool.{Bool, true, false, not, cond, ◌&&◌, ◌||◌}
 use mathlib.Core.Logic.{◌⊎◌, inl, inr}
-use lib.Dec.{eqb, ltb}
-use lib.Bits.{bit_or, bit_xor, bit_and, or_shr, or_mod, xor_shr, xor_mod}
-use lib.Pow.{pow_pos, pow-add, pow-lt, shl-shr, shl_exact}
+use lib.Dec.{eqb}
+use lib.Bits.{bit_or, bit_xor, xor_shr, xor_mod}
+use lib.Pow.{shl_exact}
 use native.Mathlib.Omega.{arith}
-use native.Mathlib.Nat.{div-one, div_self, div-eq_of_lt, mul-one, mul-mod_left, pow-suc, mul-div_cancel}
-use borrow.Author.Tests.{eqb-true, eqb-false, eq-eqb, ne_eqb, ltb-true, ltb-false}
+use borrow.Author.Tests.{eqb-true}
 use Rattle.number_sets.proofs.Join.{one_bit, two, or_digit}
 use Rattle.requested_fragments.specs.Words.{low_bit_of}
 

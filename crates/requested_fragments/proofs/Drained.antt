@@ -1,15 +1,15 @@
 -- Every fragment asked for comes up, once, and then none is asked for. Assumes nothing.
-use Prim.Native.Nat.{ℕ, zero, suc, ◌+◌, ◌-◌, ◌≤◌, ◌<◌}
+use Prim.Native.Nat.{ℕ, zero, suc, ◌+◌, ◌≤◌, ◌<◌}
 use mathlib.Core.Path.{◌≡◌, refl, sym, ap, subst, ◌∙◌}
-use mathlib.Core.Bool.{Bool, true, false, not, cond, ◌&&◌, ◌||◌, true≢false, false≢true}
+use mathlib.Core.Bool.{Bool, true, false, cond, ◌&&◌, ◌||◌, true≢false}
 use mathlib.Core.List.{List, [], ◌∷◌, ◌++◌}
 use native.Mathlib.Omega.{arith}
-use lib.Dec.{eqb, ltb, leb}
+use lib.Dec.{eqb, leb}
 use lib.ListN.{length}
-use borrow.Author.Tests.{eq-eqb, ne_eqb, le-leb, eqb-true, eqb-false}
-use Rattle.sets.specs.Sets.{has, From, empty, only, without, first_or}
+use borrow.Author.Tests.{eq-eqb, ne_eqb, le-leb, eqb-true}
+use Rattle.sets.specs.Sets.{has, From, empty, without}
 use Rattle.sets.proofs.Has.{From_weak}
-use Rattle.requested_fragments.specs.Entries.{Entry, keep, sent, next_sample, next_fragment}
+use Rattle.requested_fragments.specs.Entries.{Entry, sent, next_sample, next_fragment}
 use Rattle.requested_fragments.specs.Drain.{EntriesCoherent, Piece, pieces_of, all_asked, DrainRun, offering, turns, times, is_asked}
 
 -- a number below all of a set is not in it
@@ -52,7 +52,7 @@ entry (f ∷ (x ∷ xs)) (suc k) n es g z h r =
     let w : without f (f ∷ (x ∷ xs)) ≡ x ∷ xs = first-gone f (x ∷ xs) g in
     let s : sent n f held ≡ record { sample = n; frags = x ∷ xs } ∷ es = rw (d, w) refl in
     turn k held n f refl a b
-        ∙ ap (offering (record { sample = n; frag = f })) (ap (turns k) s ∙ entry (x ∷ xs) k n es (From_weak 1 (suc f) (x ∷ xs) (omega arith) g.1) refl (omega arith) r)
+    ∙ ap (offering (record { sample = n; frag = f })) (ap (turns k) s ∙ entry (x ∷ xs) k n es (From_weak 1 (suc f) (x ∷ xs) (omega arith) g.1) refl (omega arith) r)
 
 -- with as many turns as fragments are asked for, or more
 pub drained : (k s : ℕ) (es : List Entry) → EntriesCoherent s es → length (all_asked es) ≤ k → turns k es ≡ record { offered = all_asked es; left = [] }

@@ -1,13 +1,13 @@
 -- A table has one form in the rooms; what a call leaves is that form of its result, and passes the check again. Assumes nothing.
 use Prim.Native.Nat.{ℕ, zero, suc, ◌+◌, ◌-◌, ◌*◌, ◌≤◌, ◌<◌, max}
-use mathlib.Core.Path.{◌≡◌, refl, sym, ap, subst, ◌∙◌}
-use mathlib.Core.Bool.{Bool, true, false, not, cond, ◌&&◌, true≢false, false≢true}
+use mathlib.Core.Path.{◌≡◌, refl, sym, ap, ◌∙◌}
+use mathlib.Core.Bool.{Bool, true, false, not, cond, ◌&&◌, false≢true}
 use mathlib.Core.List.{List, [], ◌∷◌, ◌++◌, append_assoc}
 use native.Mathlib.Omega.{arith}
 use lib.Dec.{eqb, ltb, leb}
-use lib.ListN.{length, take, drop, replicate, length-append, length-take, length-drop, replicate-append-replicate}
+use lib.ListN.{length, take, drop, replicate, length-append, length-drop, replicate-append-replicate}
 use lib.Seq.{length-take-le, take_at, drop_at, drop-drop}
-use borrow.Author.Tests.{eqb-true, ltb-true, lt-ltb, le-leb}
+use borrow.Author.Tests.{eqb-true, ltb-true, lt-ltb}
 use Rattle.sets.specs.Sets.{empty}
 use Rattle.requested_fragments.specs.Words.{fragments_of, not_asking}
 use Rattle.requested_fragments.proofs.Frags.{not_asking-length}

@@ -8,18 +8,16 @@ use lib.Dec.{eqb, ltb, leb}
 use lib.ListN.{length, get_or, set, length-set, get_or-eq_default}
 use lib.Seq.{get_or-set_same, get_or-set_other, ext_get_or}
 use lib.Bits.{bit_or, bit_xor, or_add_and, and_le_l, and_le_r}
-use lib.Count.{count_trailing_zeros, under}
-use lib.Pow.{pow_pos, pow_mono, shr-shr}
 use native.Mathlib.Omega.{arith}
-use native.Mathlib.Nat.{div-one, zero-div, zero-mod, div-add-mod, div-div-eq-div-mul, pow-suc, pow-succ', div-lt_iff_lt-mul, zero-lt-suc, div-eq_of_lt, lt_of_lt_of_le}
-use borrow.Author.Tests.{eqb-true, eqb-false, eq-eqb, ne_eqb, ltb-true, ltb-false, le-leb, lt-leb, leb-true, leb-false}
+use native.Mathlib.Nat.{div-one, zero-div, div-add-mod, div-div-eq-div-mul, pow-suc, pow-succ', div-lt_iff_lt-mul, zero-lt-suc}
+use borrow.Author.Tests.{eqb-true, eqb-false, eq-eqb, ne_eqb, ltb-true, ltb-false, le-leb, leb-true}
 use Rattle.number_sets.proofs.Eight.{eqb_same}
-use Rattle.sets.specs.Sets.{has, From, insert, only, without, those, empty, first_or}
+use Rattle.sets.specs.Sets.{has, From, insert, only, without, empty}
 use Rattle.sets.proofs.Has.{has-insert, has-only, From-insert, From-only, From-low}
 use Rattle.sets.proofs.Bools.{decide, clash}
 use Rattle.sets.proofs.Those.{From-those, has_those_is}
 use Rattle.sets.proofs.Ext.{ext, From_off}
-use Rattle.sets.proofs.First.{first-is, first-none, empty-none}
+use Rattle.sets.proofs.First.{first-is, first-none}
 use Rattle.requested_fragments.specs.Words.{low_bit_of, low_bit_at, fragments_of, asking, not_asking, next_in}
 use Rattle.requested_fragments.proofs.Digit.{or_bit, xor_bit}
 

@@ -1,18 +1,18 @@
 -- What a request leaves in the table and its rooms. Assumes nothing.
-use Prim.Native.Nat.{ℕ, zero, suc, ◌+◌, ◌-◌, ◌*◌, ◌≤◌, ◌<◌, min, max}
-use mathlib.Core.Path.{◌≡◌, refl, sym, ap, subst, ◌∙◌}
-use mathlib.Core.Bool.{Bool, true, false, not, cond}
-use mathlib.Core.List.{List, [], ◌∷◌, ◌++◌, append-nil, append_assoc}
-use lib.Dec.{eqb, ltb, leb}
-use lib.ListN.{length, take, drop, get_or, replicate, length-append, length-take, length-drop, length-replicate}
-use lib.Seq.{take-add, drop-drop, take-take, length-take-le}
+use Prim.Native.Nat.{ℕ, suc, ◌+◌, ◌-◌, ◌*◌, ◌≤◌, ◌<◌}
+use mathlib.Core.Path.{◌≡◌, refl, sym, ap, ◌∙◌}
+use mathlib.Core.Bool.{Bool, true, false}
+use mathlib.Core.List.{List, [], ◌∷◌, ◌++◌, append_assoc}
+use lib.Dec.{eqb, leb}
+use lib.ListN.{length, take, drop, replicate, length-append, length-take, length-drop}
+use lib.Seq.{drop-drop, take-take, length-take-le}
 use native.Mathlib.Omega.{arith}
 use Rattle.rising.specs.Runs.{place_of, holds_at, over}
 use Rattle.rising.proofs.Rooms.{drop-take, room-same}
 use Rattle.rising.proofs.Inserts.{place_le}
 use Rattle.requested_fragments.proofs.Cases.{by_bool, no}
 use Rattle.requested_fragments.specs.Table.{Block, blocks_of, samples_in, words_in, ask_t, ask_all}
-use Rattle.requested_fragments.proofs.Blocks.{t64, d64, dt64, samples_of_lem, words_of, length_of, samples-length}
+use Rattle.requested_fragments.proofs.Blocks.{t64, d64, dt64, samples_of_lem, words_of, samples-length}
 use Rattle.requested_fragments.proofs.Mark.{put-over}
 use Rattle.requested_fragments.proofs.Asking.{ask_all-length}
 

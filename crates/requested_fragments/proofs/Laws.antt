@@ -1,22 +1,20 @@
 -- The calls on the table, way by way. Assumes nothing.
-use Prim.Native.Nat.{ℕ, zero, suc, ◌+◌, ◌-◌, ◌*◌, ◌/◌, ◌≤◌, ◌<◌}
-use mathlib.Core.Path.{◌≡◌, refl, sym, ap, subst, ◌∙◌}
-use mathlib.Core.Bool.{Bool, true, false, not, cond, ◌&&◌}
-use mathlib.Core.List.{List, [], ◌∷◌, ◌++◌}
+use Prim.Native.Nat.{ℕ, zero, suc, ◌-◌, ◌*◌, ◌/◌, ◌≤◌, ◌<◌}
+use mathlib.Core.Path.{◌≡◌, refl, sym, ap, ◌∙◌}
+use mathlib.Core.Bool.{Bool, true, false, ◌&&◌}
+use mathlib.Core.List.{List, [], ◌∷◌}
 use native.Mathlib.Omega.{arith}
 use lib.Dec.{eqb, leb}
 use lib.ListN.{length, take, drop, get_or, length-drop}
 use lib.Seq.{take_all}
 use borrow.Author.Tests.{le-leb, lt-leb, eq-eqb, ne_eqb}
-use Rattle.sets.specs.Sets.{empty}
 use Rattle.sets.proofs.Bools.{and_no}
 use Rattle.numbers.specs.Promise.{Gives1, Gives2}
 use Rattle.rising.specs.Runs.{zeros, run_coherent, over, in_room}
 use Rattle.rising.proofs.Meaning.{run_is}
-use Rattle.requested_fragments.specs.declared.table.NextPiece.{NextPiece}
 use Rattle.requested_fragments.specs.Words.{next_in}
 use Rattle.requested_fragments.specs.Entries.{next_sample, next_fragment}
-use Rattle.requested_fragments.specs.Table.{Block, table_of, entries_of, all_hold, frag_rooms_coherent, samples_in, words_in, mark_t, ask_t, rooms_holding, same, rooms_hold, marked_in, asked_in, next_piece_of}
+use Rattle.requested_fragments.specs.Table.{table_of, entries_of, all_hold, frag_rooms_coherent, samples_in, words_in, mark_t, rooms_hold, marked_in, next_piece_of}
 
 -- what a cut leaves, where the run is in the room
 pub in_run : (f : List ℕ → List ℕ) (c : ℕ) (a : List ℕ) (r : ℕ) (u : List ℕ) → c ≤ length a → Gives1 r u (in_room f c a) → (r ≡ length (f (take c a))) × (u ≡ over a c (f (take c a)))

@@ -1,15 +1,15 @@
 -- What `mark_in` leaves in the rooms. Assumes nothing.
-use Prim.Native.Nat.{ℕ, zero, suc, ◌+◌, ◌-◌, ◌*◌, ◌≤◌, ◌<◌, min, max}
-use mathlib.Core.Path.{◌≡◌, refl, sym, ap, subst, ◌∙◌}
+use Prim.Native.Nat.{ℕ, suc, ◌+◌, ◌-◌, ◌*◌, ◌≤◌, ◌<◌, max}
+use mathlib.Core.Path.{◌≡◌, sym, ap, subst, ◌∙◌}
 use mathlib.Core.Bool.{Bool, true, false, not, cond}
-use mathlib.Core.List.{List, [], ◌∷◌, ◌++◌, append-nil, append_assoc}
-use lib.ListN.{length, take, drop, get_or, replicate, length-append, length-take, length-drop, length-replicate, take-append-drop}
-use lib.Seq.{take-add, drop-drop, take-take, length-take-le, take_at, drop_at}
+use mathlib.Core.List.{List, ◌++◌, append_assoc}
+use lib.ListN.{length, take, drop, get_or, length-append, length-take, length-drop, take-append-drop}
+use lib.Seq.{drop-drop, take-take, length-take-le, take_at, drop_at}
 use native.Mathlib.Omega.{arith}
 use borrow.Author.Tests.{eq-eqb, ne_eqb}
 use Rattle.sets.proofs.Loops.{here, done}
-use Rattle.sets.specs.Sets.{has, empty}
-use Rattle.requested_fragments.specs.Words.{fragments_of, asking, not_asking}
+use Rattle.sets.specs.Sets.{empty}
+use Rattle.requested_fragments.specs.Words.{fragments_of, not_asking}
 use Rattle.requested_fragments.proofs.Frags.{not_asking-length}
 use Rattle.rising.specs.Runs.{over}
 use Rattle.requested_fragments.specs.Find.{index_of}

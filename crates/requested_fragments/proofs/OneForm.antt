@@ -1,9 +1,9 @@
 -- Two records of one length that pass the check and ask for the same are the same, word by word. Assumes nothing.
-use Prim.Native.Nat.{ℕ, zero, suc, ◌+◌, ◌-◌, ◌*◌, ◌^◌, ◌≤◌, ◌<◌}
+use Prim.Native.Nat.{ℕ, ◌+◌, ◌*◌, ◌^◌, ◌≤◌, ◌<◌}
 use mathlib.Core.Path.{◌≡◌, refl, sym, ap, subst, ◌∙◌}
-use mathlib.Core.Bool.{Bool, true, false}
+use mathlib.Core.Bool.{true, false}
 use mathlib.Core.Logic.{◌⊎◌, inl, inr}
-use mathlib.Core.List.{List, [], ◌∷◌, ◌++◌}
+use mathlib.Core.List.{List, [], ◌∷◌}
 use native.Mathlib.Omega.{arith}
 use lib.Dec.{ltb}
 use lib.ListN.{length, take, drop, get_or, length-take, get_or-eq_default}
@@ -19,7 +19,7 @@ use Rattle.requested_fragments.specs.Table.{Block, blocks_of, samples_in, words_
 use Rattle.requested_fragments.proofs.Blocks.{samples_of_lem, words_of, length_of}
 use Rattle.requested_fragments.proofs.Coherent.{Coherent}
 use Rattle.requested_fragments.proofs.Meaning.{Full}
-use Rattle.requested_fragments.proofs.Form.{Fit, coherent_fit, holding_form}
+use Rattle.requested_fragments.proofs.Form.{coherent_fit, holding_form}
 
 -- every word is one of 64 bits, as the type says
 abbrev pub Words : List ℕ → Type 0

@@ -1,15 +1,15 @@
 -- The members of a set from one number on, one by one. Assumes nothing.
-use Prim.Native.Nat.{ℕ, zero, suc, ◌+◌, ◌-◌, ◌≤◌, ◌<◌}
+use Prim.Native.Nat.{ℕ, suc, ◌+◌, ◌≤◌, ◌<◌}
 use mathlib.Core.Path.{◌≡◌, refl, sym, ap, subst, ◌∙◌}
-use mathlib.Core.Bool.{Bool, true, false, cond, ◌&&◌, ◌||◌, true≢false, false≢true}
+use mathlib.Core.Bool.{Bool, true, false, ◌&&◌, ◌||◌, true≢false, false≢true}
 use mathlib.Core.List.{List, [], ◌∷◌}
 use mathlib.Core.Logic.{◌⊎◌, inl, inr}
 use native.Mathlib.Omega.{arith}
-use lib.Dec.{eqb, leb}
-use borrow.Author.Tests.{leb-true, leb-false, le-leb, lt-leb, eq-eqb, ne_eqb}
-use Rattle.sets.specs.Sets.{has, From, only, between, empty, first_or}
+use lib.Dec.{leb}
+use borrow.Author.Tests.{leb-true, leb-false, le-leb, eq-eqb, ne_eqb}
+use Rattle.sets.specs.Sets.{has, From, between, empty, first_or}
 use Rattle.sets.proofs.Bools.{decide, and_left, and_right}
-use Rattle.sets.proofs.Has.{has-between, From-only, From-low}
+use Rattle.sets.proofs.Has.{has-between, From-only}
 use Rattle.sets.proofs.Ext.{ext, From_off}
 use Rattle.requested_fragments.specs.Table.{ask_all}
 use Rattle.requested_fragments.specs.Words.{asking}

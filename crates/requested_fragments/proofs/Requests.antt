@@ -1,19 +1,19 @@
 -- The request, way by way. Assumes nothing.
-use Prim.Native.Nat.{ℕ, zero, suc, ◌+◌, ◌-◌, ◌*◌, ◌/◌, ◌≤◌, ◌<◌}
-use mathlib.Core.Path.{◌≡◌, refl, sym, ap, subst, ◌∙◌}
+use Prim.Native.Nat.{ℕ, zero, suc, ◌+◌, ◌*◌, ◌/◌, ◌≤◌, ◌<◌}
+use mathlib.Core.Path.{◌≡◌, refl, sym, ap, ◌∙◌}
 use mathlib.Core.Bool.{Bool, true, false, not, cond, ◌&&◌, false≢true}
 use mathlib.Core.List.{List, [], ◌∷◌, ◌++◌}
 use native.Mathlib.Omega.{arith}
 use lib.Dec.{leb}
 use lib.ListN.{length, take, drop, replicate}
 use lib.Seq.{length-take-le}
-use borrow.Author.Tests.{le-leb, lt-leb}
+use borrow.Author.Tests.{le-leb}
 use Rattle.sets.specs.Sets.{empty, insert}
 use Rattle.sets.proofs.Bools.{and_no}
 use Rattle.numbers.specs.Promise.{Gives1, Gives2}
 use Rattle.rising.specs.Runs.{place_of, holds_at, put_in, over, in_room, insert_within}
 use Rattle.rising.proofs.Inserts.{insert_new, put-length}
-use Rattle.requested_fragments.specs.Table.{Block, table_of, samples_in, words_in, ask_t, ask_all, rooms_hold, same, rooms_holding, asked_in}
+use Rattle.requested_fragments.specs.Table.{Block, table_of, samples_in, words_in, ask_t, ask_all, rooms_hold, asked_in}
 use Rattle.requested_fragments.proofs.Laws.{in_run, fit, short_samples, short_words}
 use Rattle.requested_fragments.proofs.Joined.{join_law, fresh_law, new_length, place_in}
 

@@ -1,10 +1,8 @@
 -- From a record that passes the check, every fragment asked for comes up. Assumes nothing.
-use Prim.Native.Nat.{ℕ, zero, suc, ◌+◌, ◌-◌, ◌*◌, ◌≤◌, ◌<◌}
-use mathlib.Core.Path.{◌≡◌, refl, sym, ap, subst, ◌∙◌}
-use mathlib.Core.Bool.{Bool, true, false, not, cond, true≢false, false≢true}
-use mathlib.Core.List.{List, [], ◌∷◌, ◌++◌}
-use native.Mathlib.Omega.{arith}
-use lib.Dec.{eqb, ltb, leb}
+use Prim.Native.Nat.{ℕ, suc, ◌≤◌}
+use mathlib.Core.Path.{◌≡◌, ap, ◌∙◌}
+use mathlib.Core.Bool.{true, not}
+use mathlib.Core.List.{List, [], ◌∷◌}
 use lib.ListN.{length, take, drop}
 use lib.Seq.{length-take-le}
 use borrow.Author.Tests.{not-true}
@@ -16,7 +14,7 @@ use Rattle.rising.specs.Runs.{rises_above}
 use Rattle.sets.proofs.Bools.{and_left, and_right}
 use Rattle.requested_fragments.specs.Table.{blocks_of, all_hold, blocks_view, table_of, frag_rooms_coherent}
 use Rattle.requested_fragments.specs.Drain.{EntriesCoherent, all_asked, turns}
-use Rattle.requested_fragments.proofs.Coherent.{Coherent, is-coherent}
+use Rattle.requested_fragments.proofs.Coherent.{is-coherent}
 use Rattle.requested_fragments.proofs.Drained.{drained}
 
 sound_of : (ss ws : List ℕ) (p : ℕ) → rises_above p ss ≡ true → all_hold (length ss) ws ≡ true → EntriesCoherent (suc p) (blocks_view (blocks_of ss ws))

@@ -1,5 +1,5 @@
 -- The customer's complaint: every fragment asked for comes up. Assumes nothing.
-use Rattle.std.specs.Prelude.{ℕ, zero, suc, ◌+◌, ◌≤◌, ◌<◌, Bool, true, false, cond, ◌&&◌, ◌||◌, List, [], ◌∷◌, ◌++◌, ◌≡◌, eqb, length}
+use Rattle.std.specs.Prelude.{ℕ, zero, suc, ◌≤◌, Bool, false, cond, ◌&&◌, ◌||◌, List, [], ◌∷◌, ◌++◌, ◌≡◌, eqb}
 use Rattle.sets.specs.Sets.{From, has, empty}
 use Rattle.requested_fragments.specs.Entries.{Entry, sent, next_sample, next_fragment}
 

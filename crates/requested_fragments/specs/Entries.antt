@@ -1,6 +1,6 @@
 -- What requested fragments mean: rising samples, each with the rising numbers of its requested fragments. Every step computes.
 -- Assumes nothing.
-use Rattle.std.specs.Prelude.{ℕ, suc, Bool, true, false, cond, List, [], ◌∷◌, eqb, leb}
+use Rattle.std.specs.Prelude.{ℕ, Bool, true, false, cond, List, [], ◌∷◌, eqb, leb}
 use Rattle.sets.specs.Sets.{union, without, only, empty, first_or}
 
 pub record Entry : Type 0 where

@@ -1,5 +1,5 @@
 -- The entries in rooms: a table of samples, each with its 64 words. Assumes nothing.
-use Rattle.std.specs.Prelude.{ℕ, zero, suc, ◌+◌, ◌-◌, ◌*◌, Bool, true, false, cond, not, ◌&&◌, List, [], ◌∷◌, ◌++◌, eqb, leb, length, take, drop, replicate}
+use Rattle.std.specs.Prelude.{ℕ, zero, suc, ◌*◌, Bool, true, cond, not, ◌&&◌, List, [], ◌∷◌, ◌++◌, eqb, leb, length, take, drop, replicate}
 use Rattle.sets.specs.Sets.{empty, between}
 use Rattle.numbers.specs.Capacities.{most_frag_samples, sample_words, top_fragment}
 use Rattle.numbers.specs.Promise.{Left2}

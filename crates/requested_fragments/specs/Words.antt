@@ -1,6 +1,6 @@
 -- The fragments that a run of 64-bit words asks for. Fragment f, from 1 on, is the bit of worth 2^((f−1) mod 64) in word (f−1) div 64.
 -- Assumes nothing.
-use Rattle.std.specs.Prelude.{ℕ, zero, suc, ◌+◌, ◌-◌, ◌*◌, ◌/◌, ◌%◌, ◌^◌, Bool, true, false, cond, List, [], ◌∷◌, eqb, leb, length, get_or, set, take}
+use Rattle.std.specs.Prelude.{ℕ, ◌-◌, ◌*◌, ◌/◌, ◌%◌, ◌^◌, Bool, cond, List, eqb, leb, length, get_or, set}
 use Rattle.std.specs.Int.Bits.{bit_or, bit_xor}
 use Rattle.sets.specs.Sets.{has, only, those, first_or}
 

@@ -1,5 +1,5 @@
 -- The calls on a rising set: refused, or the set's change done in its room. Assumes nothing.
-use Rattle.std.proofs.Common.{◌≡◌, ℕ, suc, ◌+◌, ◌≤◌, Bool, true, false, cond, ◌&&◌, ◌||◌, eqb, ltb, leb, List, [], ◌∷◌, length, take, sym, refl, ap, ◌∙◌, arith, length-take, eqb-true}
+use Rattle.std.proofs.Common.{◌≡◌, ℕ, suc, ◌+◌, ◌≤◌, Bool, true, false, cond, ◌&&◌, ◌||◌, eqb, leb, List, [], ◌∷◌, length, take, sym, refl, ap, ◌∙◌, arith, length-take, eqb-true}
 use Rattle.numbers.specs.Promise.{Gives1}
 use Rattle.numbers.proofs.Next.{none_is}
 use Rattle.sets.specs.Sets.{has, From, insert, only, between, empty, first_or}

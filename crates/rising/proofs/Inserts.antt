@@ -1,10 +1,10 @@
 -- A number found by its place in a run: taken out, put in, or the run cut there. Assumes nothing.
-use Rattle.std.proofs.Common.{◌≡◌, ℕ, zero, suc, ◌+◌, ◌-◌, ◌<◌, ◌≤◌, min, max, Bool, true, false, cond, ◌||◌, eqb, ltb, leb, List, [], ◌∷◌, ◌++◌, length, take, drop, set, replicate, sym, refl, ap, ◌∙◌, append_assoc, append-nil, suc-le-suc, zero-le, lt_irrefl, arith, length-append, length-drop, length-take, length-take-le, take_all, take-suc, drop-drop, le-ltb, lt-ltb, eq-eqb, ne_eqb, eqb-true, le-leb, leb-false, leb-true}
+use Rattle.std.proofs.Common.{◌≡◌, ℕ, suc, ◌+◌, ◌-◌, ◌<◌, ◌≤◌, min, max, Bool, true, false, cond, ◌||◌, eqb, ltb, leb, List, [], ◌∷◌, ◌++◌, length, take, drop, set, sym, refl, ap, ◌∙◌, append_assoc, append-nil, suc-le-suc, zero-le, lt_irrefl, arith, length-append, length-drop, length-take, length-take-le, take_all, le-ltb, lt-ltb, eq-eqb, ne_eqb, eqb-true, le-leb, leb-false, leb-true}
 use mathlib.Core.Bool.{false≢true}
-use lib.Seq.{take-append-le, drop-append-le, set_at}
+use lib.Seq.{drop-append-le, set_at}
 use borrow.Author.Tests.{lt-leb, eqb-false}
 use Rattle.numbers.specs.Promise.{Gives1}
-use Rattle.sets.specs.Sets.{insert, largest}
+use Rattle.sets.specs.Sets.{insert}
 use Rattle.rising.specs.Runs.{place_of, holds_at, cut_out, put_in, removed, from_on, before, insert_within, newest, over, in_room}
 use Rattle.sets.proofs.Bools.{or_no, neither}
 use Rattle.sets.proofs.Loops.{done}

@@ -1,5 +1,5 @@
 -- Laws of lists that the loops use. Assumes nothing.
-use Rattle.std.proofs.Common.{◌≡◌, ℕ, zero, suc, ◌+◌, ◌-◌, ◌<◌, ◌≤◌, min, Bool, true, false, ltb, List, [], ◌∷◌, ◌++◌, length, get_or, take, drop, set, replicate, sym, refl, ap, ◌∙◌, append_assoc, append-nil, add-one, arith, length-append, length-drop, take-append-drop, length-take, length-take-le, get_or-drop, take_all, get_or-take, take-suc, drop-drop, get_or-append-add, ltb-false, ltb-true}
+use Rattle.std.proofs.Common.{◌≡◌, ℕ, zero, suc, ◌+◌, ◌-◌, ◌<◌, ◌≤◌, min, Bool, true, false, ltb, List, [], ◌++◌, length, get_or, take, drop, set, replicate, sym, refl, ap, ◌∙◌, append_assoc, append-nil, add-one, arith, length-append, length-drop, take-append-drop, length-take, length-take-le, get_or-drop, take_all, get_or-take, take-suc, drop-drop, get_or-append-add, ltb-false, ltb-true}
 use Rattle.sets.proofs.Loops.{here, done, upto, upto_all}
 use Rattle.rising.specs.Runs.{filled}
 use lib.ListN.{length-replicate, get_or-append}

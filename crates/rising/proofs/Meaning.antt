@@ -1,12 +1,12 @@
 -- What the runs mean: the check of a room reads as a rising set and zeros, and each change of a rising run is the change of the set. Assumes nothing.
-use Rattle.std.proofs.Common.{◌≡◌, ℕ, zero, suc, ◌+◌, ◌-◌, ◌<◌, ◌≤◌, max, Bool, true, false, cond, not, ◌&&◌, ◌||◌, eqb, ltb, leb, ◌⊎◌, List, [], ◌∷◌, ◌++◌, length, take, drop, replicate, sym, refl, ap, ◌∙◌, subst, inl, inr, true≢false, append_assoc, append-nil, lt_irrefl, arith, length-append, length-drop, take-append-drop, length-take, length-take-le, take_all, drop-drop, take_at, drop_at, ltb-false, ltb-true, le-ltb, lt-ltb, eq-eqb, ne_eqb, eqb-true, le-leb, leb-false, leb-true}
+use Rattle.std.proofs.Common.{◌≡◌, ℕ, zero, suc, ◌+◌, ◌-◌, ◌<◌, ◌≤◌, max, Bool, true, false, cond, not, ◌&&◌, ◌||◌, eqb, ltb, leb, List, [], ◌∷◌, ◌++◌, length, take, drop, replicate, sym, refl, ap, ◌∙◌, lt_irrefl, arith, length-append, length-drop, take-append-drop, length-take-le, drop-drop, take_at, drop_at, ltb-true, le-ltb, lt-ltb, eq-eqb, ne_eqb, eqb-true, le-leb, leb-false, leb-true}
 use mathlib.Core.Bool.{false≢true}
 use lib.ListN.{length-replicate, replicate-append-replicate}
-use borrow.Author.Tests.{eqb-false, lt-leb}
+use borrow.Author.Tests.{eqb-false}
 use Rattle.numbers.specs.Capacities.{top_number}
-use Rattle.numbers.specs.Promise.{Left1, Gives1}
+use Rattle.numbers.specs.Promise.{Gives1}
 use Rattle.sets.specs.Sets.{has, From, only, between, without, insert, union, smallest, largest}
-use Rattle.sets.proofs.Bools.{decide, and_left, and_right, and_both, clash, or_right}
+use Rattle.sets.proofs.Bools.{and_left, and_right, and_both, or_right}
 use Rattle.sets.proofs.Has.{From-low, From_weak, has-only, has-insert, has-union, From-insert, From-union, From-only}
 use Rattle.sets.proofs.Smallest.{From-take, From-drop, has_take_sub, has_drop_sub}
 use Rattle.rising.specs.Runs.{rises_above, zeros, run_coherent, room_of, place_of, holds_at, cut_out, removed, from_on, before, over, in_room}

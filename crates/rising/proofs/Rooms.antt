@@ -1,7 +1,7 @@
 -- The room, when a run in it has changed. Assumes nothing.
-use Rattle.std.proofs.Common.{◌≡◌, ℕ, zero, suc, ◌+◌, ◌-◌, ◌<◌, ◌≤◌, min, max, Bool, true, false, cond, leb, List, [], ◌∷◌, ◌++◌, length, take, drop, set, replicate, sym, refl, ap, ◌∙◌, subst, append_assoc, append-nil, suc-le-suc, zero-le, arith, length-append, length-drop, take-append-drop, length-take, length-take-le, take_all, take-take, drop-drop, le-leb, leb-false, leb-true}
+use Rattle.std.proofs.Common.{◌≡◌, ℕ, zero, suc, ◌+◌, ◌-◌, ◌<◌, ◌≤◌, min, max, Bool, true, false, leb, List, [], ◌∷◌, ◌++◌, length, take, drop, set, replicate, sym, refl, ap, ◌∙◌, subst, append_assoc, append-nil, arith, length-append, length-drop, take-append-drop, length-take, length-take-le, take_all, take-take, drop-drop, le-leb, leb-false, leb-true}
 use lib.ListN.{length-replicate}
-use lib.Seq.{take-nil, set_at, take-append-add, take-append-le}
+use lib.Seq.{take-nil, set_at, take-append-add}
 use borrow.Author.Tests.{lt-leb}
 use Rattle.numbers.specs.Promise.{Gives1}
 use Rattle.rising.specs.Runs.{over, in_room, cut_out, put_in, opened, opened_within}

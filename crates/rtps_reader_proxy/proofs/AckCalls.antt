@@ -1,22 +1,21 @@
 -- The acknowledgement: what stays, what joins, and the whole call. Assumes nothing.
-use Prim.Native.Nat.{ℕ, zero, suc, ◌+◌, ◌-◌, ◌≤◌, ◌<◌, min, max}
+use Prim.Native.Nat.{ℕ, suc, ◌+◌, ◌-◌, ◌≤◌, ◌<◌, min, max}
 use mathlib.Core.Path.{◌≡◌, refl, sym, ap, subst, ◌∙◌}
 use mathlib.Core.Bool.{Bool, true, false, not, cond, ◌&&◌, ◌||◌, true≢false}
-use mathlib.Core.List.{List, [], ◌∷◌, ◌++◌}
-use mathlib.Core.Logic.{◌⊎◌}
+use mathlib.Core.List.{List, [], ◌∷◌}
 use native.Mathlib.Omega.{arith}
 use native.Mathlib.Numerals.{add-one}
 use lib.Dec.{leb, ltb}
-use lib.ListN.{length, take, drop, length-take}
+use lib.ListN.{length, take, length-take}
 use lib.Seq.{length-take-le}
-use borrow.Author.Tests.{lt-ltb, le-ltb, ltb-false, not-false, not-true}
+use borrow.Author.Tests.{lt-ltb, le-ltb, ltb-false, not-false}
 use Rattle.sets.specs.Sets.{From, only, between, union, smallest}
 use Rattle.sets.proofs.Bools.{and_left, and_right}
 use Rattle.sets.proofs.Has.{From_weak}
 use Rattle.numbers.specs.Capacities.{top_number}
-use Rattle.numbers.specs.Number.{rank_of, negative, in_range, number_at}
-use Rattle.numbers.specs.Refusals.{Rows, row, answer_of, done, unless}
-use Rattle.numbers.specs.Promise.{Left1, Left2, Gives1, Gives2}
+use Rattle.numbers.specs.Number.{rank_of, negative, in_range}
+use Rattle.numbers.specs.Refusals.{row, answer_of}
+use Rattle.numbers.specs.Promise.{Left2, Gives1, Gives2}
 use Rattle.numbers.specs.declared.answer.Answer.{Answer}
 use Rattle.numbers.specs.declared.sequence_number.SequenceNumber.{SequenceNumber}
 use Rattle.numbers.specs.Answers.{earlier, in_turn}
@@ -34,9 +33,9 @@ use Rattle.joined_runs.specs.Joined.{joined_in}
 use Rattle.joined_runs.proofs.Meaning.{join_is}
 use Rattle.rtps_reader_proxy.specs.declared.proxy.ReaderProxy.{ReaderProxy}
 use Rattle.rtps_reader_proxy.specs.declared.acks.AckNacked.{AckNacked}
-use Rattle.rtps_reader_proxy.specs.Reader.{Reader, base_of, is_late, is_ahead, staying, wanted, acked_after, left_out_of}
+use Rattle.rtps_reader_proxy.specs.Reader.{base_of, is_late, is_ahead, staying, wanted, acked_after, left_out_of}
 use Rattle.rtps_reader_proxy.specs.Record.{proxy_coherent, room_for, unsent_coherent, gaps_coherent, gap_floor}
-use Rattle.rtps_reader_proxy.specs.Acks.{ack_rows, ack_fits, ack_nacked_of, among_answer, ack_nacked_among, ack_leaves, acked_reader, by_both, proxy_after, run_left, Stayable, Ackable, acked_with}
+use Rattle.rtps_reader_proxy.specs.Acks.{ack_rows, ack_fits, ack_nacked_of, among_answer, ack_nacked_among, ack_leaves, by_both, run_left, Stayable, Ackable, acked_with}
 use Rattle.rtps_reader_proxy.proofs.Parts.{room_for_lem, smallest-fits, union_le}
 use Rattle.rtps_reader_proxy.proofs.UnsentCalls.{UnsentIs, unsent-is}
 use Rattle.rtps_reader_proxy.proofs.GapCalls.{GapsAre, gaps_are}

@@ -1,21 +1,20 @@
 -- The calls on the requested fragments: refused, or the reader's step done in the rooms of samples and words. Assumes nothing.
-use Prim.Native.Nat.{ℕ, zero, suc, ◌+◌, ◌-◌, ◌*◌, ◌≤◌, ◌<◌}
+use Prim.Native.Nat.{ℕ, suc, ◌+◌, ◌≤◌, ◌<◌}
 use mathlib.Core.Path.{◌≡◌, refl, sym, ap, subst, ◌∙◌}
-use mathlib.Core.Bool.{Bool, true, false, not, cond, ◌&&◌, ◌||◌, true≢false, false≢true}
+use mathlib.Core.Bool.{Bool, true, false, not, cond, ◌&&◌, ◌||◌}
 use mathlib.Core.Logic.{◌⊎◌, inl, inr}
-use mathlib.Core.List.{List, [], ◌∷◌, ◌++◌}
+use mathlib.Core.List.{List, [], ◌∷◌}
 use native.Mathlib.Omega.{arith}
 use native.Mathlib.Nat.{lt_irrefl}
 use lib.Dec.{leb, ltb, eqb}
 use lib.ListN.{length, take}
 use lib.Seq.{length-take-le}
-use borrow.Author.Tests.{not-false, not-true, eqb-false, leb-true, leb-false, eq-eqb, ne_eqb}
+use borrow.Author.Tests.{not-false, eqb-false, leb-true, leb-false, ne_eqb}
 use Rattle.sets.specs.Sets.{has, From, empty, insert, only}
 use Rattle.sets.proofs.Bools.{and_left, and_right, decide, neither}
 use Rattle.numbers.specs.Capacities.{top_number, top_fragment}
-use Rattle.numbers.specs.Number.{rank_of, is_sample, number_at, fragment_at}
-use Rattle.numbers.specs.Refusals.{holds_in, Row, row, answer_of, done, unless, Rows}
-use Rattle.numbers.specs.Cursor.{cursor_at, cursor_past}
+use Rattle.numbers.specs.Number.{rank_of, is_sample}
+use Rattle.numbers.specs.Refusals.{holds_in, Row, row, answer_of, done, Rows}
 use Rattle.numbers.specs.Promise.{Left2, Gives2}
 use Rattle.numbers.specs.declared.answer.Answer.{Answer}
 use Rattle.numbers.specs.declared.cursor.FragmentCursor.{FragmentCursor}
@@ -28,8 +27,8 @@ use Rattle.rising.proofs.Meaning.{rises_are}
 use Rattle.rising.proofs.Inserts.{insert_le}
 use Rattle.rising.proofs.Changes.{insert-same}
 use Rattle.requested_fragments.specs.declared.table.NextPiece.{NextPiece}
-use Rattle.requested_fragments.specs.Entries.{Entry, requested_some, requested, sent, samples_of, next_sample, next_fragment, some}
-use Rattle.requested_fragments.specs.Table.{Block, frag_rooms_coherent, table_of, blocks_view, entries_of, samples_room, words_room, ask_t, askable, rooms_hold, asked_in, marked_in, next_piece_of}
+use Rattle.requested_fragments.specs.Entries.{Entry, requested, samples_of, next_sample, next_fragment, some}
+use Rattle.requested_fragments.specs.Table.{frag_rooms_coherent, table_of, entries_of, samples_room, words_room, ask_t, askable, rooms_hold, asked_in, marked_in, next_piece_of}
 use Rattle.requested_fragments.proofs.Blocks.{samples_of_lem, samples-length}
 use Rattle.requested_fragments.proofs.Laws.{fit}
 use Rattle.requested_fragments.proofs.Coherent.{Coherent, is-coherent}
@@ -37,11 +36,10 @@ use Rattle.requested_fragments.proofs.Meaning.{Within, ask_means}
 use Rattle.requested_fragments.proofs.Form.{coherent_fit, marked_again}
 use Rattle.requested_fragments.proofs.AskForm.{asked_again, askable-within, askable-rises, askable_all, asked_samples}
 use Rattle.requested_fragments.proofs.OneForm.{Words}
-use Rattle.requested_fragments.proofs.Both.{Valid, view_samples, view_length, entries_valid, rooms_are}
+use Rattle.requested_fragments.proofs.Both.{view_samples, entries_valid, rooms_are}
 use Rattle.rtps_reader_proxy.specs.Parts.{count_frags}
 use Rattle.rtps_reader_proxy.specs.declared.proxy.ReaderProxy.{ReaderProxy}
 use Rattle.rtps_reader_proxy.specs.declared.proxy.Changed.{Changed}
-use Rattle.rtps_reader_proxy.specs.declared.fragments.NextFragRequested.{NextFragRequested}
 use Rattle.rtps_reader_proxy.specs.declared.fragments.Told.{Told}
 use Rattle.rtps_reader_proxy.specs.Reader.{Reader, needs_slot, frags_requested, frag_sent}
 use Rattle.rtps_reader_proxy.specs.Record.{proxy_coherent, room_for, changed}

@@ -1,7 +1,7 @@
 -- What `handle_ack_nack` answers and leaves. It is lent the unsent room and the gap room. Assumes nothing.
-use Rattle.std.specs.Prelude.{ℕ, suc, ◌-◌, ◌≤◌, min, max, ◌≡◌, refl, Bool, true, false, not, cond, ◌&&◌, ◌||◌, List, [], ◌∷◌, ltb, length, take}
+use Rattle.std.specs.Prelude.{ℕ, ◌-◌, ◌≤◌, min, ◌≡◌, refl, Bool, true, false, not, ◌&&◌, ◌||◌, List, [], ◌∷◌, ltb, length}
 use Rattle.numbers.specs.Capacities.{most_bits, top_number}
-use Rattle.numbers.specs.Number.{rank_of, in_range, negative, number_at}
+use Rattle.numbers.specs.Number.{rank_of, in_range, negative}
 use Rattle.numbers.specs.Refusals.{row, answer_of, done, unless, Rows}
 use Rattle.numbers.specs.Answers.{earlier, in_turn, answered}
 use Rattle.numbers.specs.Promise.{Left1, Left2}
@@ -14,7 +14,7 @@ use Rattle.rising.specs.Runs.{run_coherent, room_of}
 use Rattle.rtps_reader_proxy.specs.Parts.{count_unsent, count_members, acked_as}
 use Rattle.rtps_reader_proxy.specs.declared.proxy.ReaderProxy.{ReaderProxy}
 use Rattle.rtps_reader_proxy.specs.declared.acks.AckNacked.{AckNacked}
-use Rattle.rtps_reader_proxy.specs.Reader.{Reader, is_ahead, acknowledge, left_out_of, staying, wanted, acked_after, base_of}
+use Rattle.rtps_reader_proxy.specs.Reader.{Reader, is_ahead, acknowledge, left_out_of}
 use Rattle.rtps_reader_proxy.specs.Record.{room_for, unsent_coherent, gaps_coherent, reader_view}
 
 -- what refuses an acknowledgement with the set z: by whether all is coherent, whether a number is out of its range, and whether the reader is unknown,

@@ -1,6 +1,6 @@
 -- A reader as the writer keeps it, on natural numbers and rising lists, and document 01's steps on it. The promises of the code and the theorem about
 -- both ends cite these. Every step computes. Assumes nothing.
-use Rattle.std.specs.Prelude.{ℕ, zero, suc, ◌-◌, max, Bool, true, false, not, cond, ◌&&◌, ◌||◌, List, [], ◌∷◌, ltb, leb, length}
+use Rattle.std.specs.Prelude.{ℕ, zero, suc, ◌-◌, max, Bool, not, cond, ◌&&◌, ◌||◌, List, [], ◌∷◌, ltb, leb, length}
 use Rattle.sets.specs.Sets.{has, empty, insert, union, only, between, without, smallest, largest}
 use Rattle.requested_fragments.specs.Entries.{Entry, samples_of, requested, sent}
 

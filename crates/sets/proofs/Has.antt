@@ -1,16 +1,13 @@
 -- What each operation has: one equation over `has`; and what keeps a set rising. Assumes nothing.
-use Prim.Native.Nat.{ℕ, zero, suc, ◌+◌, ◌-◌, ◌≤◌, ◌<◌}
-use mathlib.Core.Path.{◌≡◌, refl, sym, ap, subst, ◌∙◌}
-use mathlib.Core.Bool.{Bool, true, false, not, cond, ◌&&◌, ◌||◌, true≢false, false≢true}
-use mathlib.Core.Logic.{◌⊎◌, inl, inr}
-use native.Mathlib.Nat.{lt_irrefl, le_refl}
-use mathlib.Core.List.{List, [], ◌∷◌, ◌++◌}
+use Prim.Native.Nat.{ℕ, suc, ◌≤◌, ◌<◌}
+use mathlib.Core.Path.{◌≡◌, refl, sym, ap, ◌∙◌}
+use mathlib.Core.Bool.{Bool, true, false, not, cond, ◌&&◌, ◌||◌, false≢true}
+use mathlib.Core.List.{List, [], ◌∷◌}
 use lib.Dec.{ltb, leb, eqb}
-use lib.ListN.{length, take, drop, length-take, length-drop}
 use native.Mathlib.Omega.{arith}
-use borrow.Author.Tests.{ltb-true, ltb-false, leb-true, leb-false, eqb-true, eqb-false, eq-eqb, ne_eqb, le-leb, lt-leb}
+use borrow.Author.Tests.{ltb-true, ltb-false, eqb-true, eqb-false, eq-eqb}
 use Rattle.sets.specs.Sets.{has, From, insert, union, only, between, without}
-use Rattle.sets.proofs.Bools.{or_swap, or_same, or_assoc, or_right, and_both, decide}
+use Rattle.sets.proofs.Bools.{or_swap, or_same, or_assoc, or_right, and_both}
 
 pub lt_of_le_of_ne : {a b : ℕ} → a ≤ b → (a ≡ b → ⊥) → a < b
 lt_of_le_of_ne p d = omega arith

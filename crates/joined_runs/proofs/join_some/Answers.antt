@@ -5,7 +5,6 @@ use native.Mathlib.Omega.{arith}
 use Rattle.joined_runs.proofs.Laid.{start_in, joined_within, joined_listable, joined_some}
 use Rattle.joined_runs.proofs.join_some.Goals as goal
 
-
 pub offset_bounds-s-p : goal.offset_bounds-s-p
 offset_bounds-s-p c = omega (arith, start_in c.args.count c.args.first c.place-p.result c.args.s.now c.place-p.ensures, c.requires.0)
 

@@ -5,7 +5,6 @@ use Rattle.number_sets.proofs.Meaning.{members_256}
 use Rattle.joined_runs.proofs.Laid.{replaced_total, replaced-room, grown-some}
 use Rattle.joined_runs.proofs.replace.Goals as goal
 
-
 pub resize-requires : goal.resize-requires
 resize-requires c = (c.requires.0, omega (arith, members_256 (sequence_set c.args.set) c.requires.1.bits, c.size-n.ensures))
 

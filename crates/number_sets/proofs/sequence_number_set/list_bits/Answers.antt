@@ -1,12 +1,11 @@
 -- `list_bits` meets its contract. Assumes nothing.
-use Prim.Native.Nat.{◌≤◌, ◌+◌, ◌-◌}
+use Prim.Native.Nat.{◌≤◌, ◌+◌}
 use native.Mathlib.Omega.{arith}
 use Rattle.number_sets.proofs.Members.{next_bit_few}
 use Rattle.number_sets.proofs.List.{listing_few, listing_start, listing_on, listing_set, listing_past}
 use borrow.Author.Rules.{rules}
 use Rattle.number_sets.proofs.sequence_number_set.list_bits.Goals as goal
 use Rattle.number_sets.proofs.sequence_number_set.list_bits.Goals.{then-k-out, else-k-out}
-
 
 pub loop-i-init : goal.loop-i-init
 loop-i-init c = (c.requires, listing_start _ _ _ _ _ (next_bit_few _ _ _ _ c.requires.few c.next_bit-i.ensures))
@@ -31,7 +30,7 @@ loop-i-preserved c =
     let n = next_bit_few _ _ _ _ l.invariant.0.few c.next_bit-i-in-loop-i.ensures in (
       l.invariant.0,
       elim c.if-k-out.branch [
-        then-k-out w ↦ rw w.out-is (listing_set _ _ _ _ _ _ _ l.invariant.1 u _ n w.if-k-out.true)
-      | else-k-out w ↦ rw w.out-is (listing_past _ _ _ _ _ _ _ l.invariant.1 u _ n w.if-k-out.false)
+        | then-k-out w ↦ rw w.out-is (listing_set _ _ _ _ _ _ _ l.invariant.1 u _ n w.if-k-out.true)
+        | else-k-out w ↦ rw w.out-is (listing_past _ _ _ _ _ _ _ l.invariant.1 u _ n w.if-k-out.false)
       ],
     )

@@ -1,9 +1,7 @@
 -- `join_bits` meets its contract. Assumes nothing.
-use Prim.Native.Nat.{◌-◌}
 use Rattle.number_sets.proofs.Join.{joining_skip, joining_set, joining_end}
 use Rattle.number_sets.proofs.words.join_bits.Goals as goal
 use Rattle.number_sets.proofs.words.join_bits.Goals.{then-p-lt-MOST_MEMBERS, else-p-lt-MOST_MEMBERS}
-
 
 pub loop-i-preserved : goal.loop-i-preserved
 loop-i-preserved c =

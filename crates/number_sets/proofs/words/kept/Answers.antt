@@ -2,6 +2,5 @@
 use Rattle.number_sets.proofs.Bit.{kept-some}
 use Rattle.number_sets.proofs.words.kept.Goals as goal
 
-
 pub returns : goal.returns
 returns c = kept-some _ _ _ c.if-e-a.false c.requires

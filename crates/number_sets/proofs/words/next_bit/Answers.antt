@@ -1,14 +1,12 @@
 -- `next_bit` meets its contract. Assumes nothing.
-use Prim.Native.Nat.{ℕ, ◌+◌, ◌-◌, ◌*◌, ◌/◌, ◌%◌, ◌^◌, min}
+use Prim.Native.Nat.{ℕ, ◌+◌, ◌*◌, ◌/◌, ◌%◌, ◌^◌, min}
 use mathlib.Core.Path.{refl, ap, ◌∙◌}
-use mathlib.Core.Bool.{false}
 use native.Mathlib.Omega.{arith}
 use lib.ListN.{get_or}
 use lib.Count.{count_leading_zeros}
 use Rattle.number_sets.proofs.Eight.{next_bit_none}
 use Rattle.number_sets.proofs.Loops.{found, passed}
 use Rattle.number_sets.proofs.words.next_bit.Goals as goal
-
 
 pub returns-then-v-ne0 : goal.returns-then-v-ne0
 returns-then-v-ne0 c =

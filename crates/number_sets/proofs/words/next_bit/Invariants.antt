@@ -4,7 +4,6 @@ use mathlib.Core.Bool.{false}
 use Rattle.number_sets.specs.Bits.{bit_at}
 use Rattle.number_sets.proofs.words.next_bit.Given as goal
 
-
 abbrev pub invariant-loop-i : goal.invariant-loop-i
 invariant-loop-i l = (l.from ≤ l.i) × ((m : ℕ) → l.from ≤ m → m < l.i → bit_at l.words m ≡ false)
 

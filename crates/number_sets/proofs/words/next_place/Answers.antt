@@ -1,8 +1,6 @@
 -- `next_place` meets its contract. Assumes nothing.
-use Prim.Native.Nat.{◌-◌}
 use Rattle.number_sets.proofs.Members.{next_bit_all, next_bit_one}
 use Rattle.number_sets.proofs.words.next_place.Goals as goal
-
 
 pub returns-then-i-lt-MOST_MEMBERS : goal.returns-then-i-lt-MOST_MEMBERS
 returns-then-i-lt-MOST_MEMBERS c =

@@ -7,7 +7,6 @@ use Rattle.number_sets.proofs.Size.{sized_step, sized_stop}
 use Rattle.number_sets.specs.Words.{BitsKept}
 use Rattle.number_sets.proofs.words.size_bits.Goals as goal
 
-
 pub loop-j-preserved : goal.loop-j-preserved
 loop-j-preserved c =
     let g = c.args in

@@ -1,5 +1,5 @@
 -- `is_before` meets its contract: what comes first of the whole is what comes first of what is left. Assumes nothing.
-use Prim.Native.Nat.{ℕ, ◌-◌, ◌+◌, ◌<◌, ◌≤◌}
+use Prim.Native.Nat.{ℕ, ◌+◌, ◌<◌, ◌≤◌}
 use mathlib.Core.Path.{◌≡◌, sym, ap, ◌∙◌}
 use mathlib.Core.Bool.{true, false, cond}
 use mathlib.Core.List.{List}
@@ -28,7 +28,6 @@ module _ (s : List ℕ) (x y i : ℕ) (inv : is_before s x y ≡ is_before (drop
   at_end_lem : length s ≤ i → true ≡ is_before s x y
   unfolding is_before
   at_end_lem h = sym (inv ∙ ap (λ (l : List ℕ). is_before l x y) (done s i h))
-
 
 pub returns-then-x-n : goal.returns-then-x-n
 returns-then-x-n c = search (rules, is-first)

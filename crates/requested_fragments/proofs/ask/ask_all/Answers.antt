@@ -1,5 +1,5 @@
 -- `ask_all` meets its contract. Assumes nothing.
-use Prim.Native.Nat.{◌≤◌, ◌-◌}
+use Prim.Native.Nat.{◌≤◌}
 use mathlib.Core.Path.{sym, ap, ◌∙◌}
 use native.Mathlib.Omega.{arith}
 use Rattle.number_sets.specs.declared.sequence_number_set.NextRank.{NextRank}
@@ -10,7 +10,6 @@ use Rattle.requested_fragments.proofs.Frags.{asking-length}
 use Rattle.requested_fragments.proofs.Onward.{asked_step, asked_lo, asked_hi}
 use borrow.Author.Rules.{rules}
 use Rattle.requested_fragments.proofs.ask.ask_all.Goals as goal
-
 
 pub overflow_add-from : goal.overflow_add-from
 overflow_add-from c =

@@ -6,7 +6,6 @@ use Rattle.number_sets.specs.Calls.{fragment_set}
 use Rattle.requested_fragments.proofs.Onward.{Asked}
 use Rattle.requested_fragments.proofs.ask.ask_all.Given as goal
 
-
 abbrev pub invariant-loop-set : goal.invariant-loop-set
 invariant-loop-set l = (length l.words ≡ length l.initial.words) × Asked (members (fragment_set l.set)) l.set.base.0 l.initial.words l.words l.from
 

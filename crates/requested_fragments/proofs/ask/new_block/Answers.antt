@@ -1,9 +1,7 @@
 -- `new_block` meets its contract. Assumes nothing.
-use Prim.Native.Nat.{◌-◌}
 use Rattle.requested_fragments.specs.Table.{askable}
 use Rattle.requested_fragments.proofs.Asking.{new_law, opened_law}
 use Rattle.requested_fragments.proofs.ask.new_block.Goals as goal
-
 
 pub returns : goal.returns
 returns c =

@@ -7,7 +7,6 @@ use Rattle.requested_fragments.proofs.Requests.{place-small, inside, asked_held,
 use borrow.Author.Rules.{rules}
 use Rattle.requested_fragments.proofs.ask.request_some.Goals as goal
 
-
 pub overflow_mul-a : goal.overflow_mul-a
 overflow_mul-a c =
     let args = c.args in

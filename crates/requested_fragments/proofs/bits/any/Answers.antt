@@ -1,6 +1,6 @@
 -- `any` meets its contract. Assumes nothing.
 use mathlib.Core.List.{List}
-use Prim.Native.Nat.{ℕ, ◌<◌, ◌^◌, ◌-◌}
+use Prim.Native.Nat.{ℕ, ◌<◌, ◌^◌}
 use mathlib.Core.Path.{◌≡◌, refl, sym, ap, ◌∙◌}
 use mathlib.Core.Bool.{Bool, true, false, not}
 use native.Mathlib.Omega.{arith}
@@ -21,7 +21,6 @@ all ws acc f g = ap not (go (eqb acc 0) refl (empty (fragments_of ws)) refl)
     go true e false h = sym (f (eqb-true acc 0 e)) ∙ h
     go false e true h = absurd (eqb-false acc 0 e (g h))
     go false e false h = refl
-
 
 pub loop-i-preserved : goal.loop-i-preserved
 loop-i-preserved c = let ws = c.args.words.now in

@@ -6,7 +6,6 @@ use Rattle.requested_fragments.specs.Words.{fragments_of}
 use Rattle.requested_fragments.proofs.Frags.{frag-zero, frag_of, past}
 use Rattle.requested_fragments.proofs.bits.asks.Goals as goal
 
-
 pub returns-then-f-eq0 : goal.returns-then-f-eq0
 returns-then-f-eq0 c = sym (ap (has (fragments_of c.args.words.now)) c.if-f-eq0.true ∙ frag-zero c.args.words.now)
 

@@ -1,9 +1,7 @@
 -- `search_bits` meets its contract. Assumes nothing.
-use Prim.Native.Nat.{◌-◌}
 use mathlib.Core.Path.{sym, ◌∙◌}
 use Rattle.requested_fragments.proofs.Frags.{search_found, search_none}
 use Rattle.requested_fragments.proofs.bits.search_bits.Goals as goal
-
 
 pub returns-then-asks : goal.returns-then-asks
 returns-then-asks c = search_found _ _ _ c.loop-n.invariant.1 (sym c.asks.ensures ∙ c.if-asks.true)

@@ -6,7 +6,6 @@ use mathlib.Core.Path.{◌≡◌, sym, ◌∙◌}
 use Rattle.requested_fragments.proofs.Frags.{asked_place}
 use Rattle.requested_fragments.proofs.bits.unask.Goals as goal
 
-
 pub overflow_sub-p : goal.overflow_sub-p
 overflow_sub-p c = let ws = c.args.words.now in
     let f = c.args.f in

@@ -8,7 +8,6 @@ use Rattle.requested_fragments.specs.Table.{all_hold}
 use Rattle.requested_fragments.proofs.Blocks.{hold_more}
 use Rattle.requested_fragments.proofs.table.all_hold.Goals as goal
 
-
 pub loop-i-preserved : goal.loop-i-preserved
 loop-i-preserved c =
     let l = c.loop-i in

@@ -1,5 +1,5 @@
 -- `keep_from` meets its contract. Assumes nothing.
-use Prim.Native.Nat.{◌≤◌, ◌-◌, ◌*◌}
+use Prim.Native.Nat.{◌≤◌, ◌*◌}
 use native.Mathlib.Omega.{arith}
 use lib.ListN.{length}
 use Rattle.rising.specs.Runs.{cut_out}
@@ -9,7 +9,6 @@ use lib.ListN.{take}
 use Rattle.requested_fragments.proofs.Laws.{in_run}
 use Rattle.requested_fragments.proofs.Keep.{kept-done}
 use Rattle.requested_fragments.proofs.table.keep_from.Goals as goal
-
 
 pub returns : goal.returns
 returns c =

@@ -1,5 +1,5 @@
 -- `mark_sent` meets its contract. Assumes nothing.
-use Prim.Native.Nat.{◌≤◌, ◌<◌, ◌-◌, ◌*◌}
+use Prim.Native.Nat.{◌≤◌, ◌<◌, ◌*◌}
 use mathlib.Core.Path.{sym, ◌∙◌}
 use native.Mathlib.Omega.{arith}
 use lib.ListN.{length}
@@ -8,7 +8,6 @@ use Rattle.requested_fragments.proofs.Mark.{mark-none, mark-stays, mark_goes, cl
 use Rattle.rising.specs.Runs.{cut_out}
 use Rattle.requested_fragments.proofs.Laws.{in_run, marked-done}
 use Rattle.requested_fragments.proofs.table.mark_sent.Goals as goal
-
 
 pub returns-then-count-e : goal.returns-then-count-e
 returns-then-count-e c =

@@ -1,8 +1,6 @@
 -- `next` meets its contract. Assumes nothing.
-use Prim.Native.Nat.{◌-◌}
 use Rattle.requested_fragments.proofs.Laws.{next-none}
 use Rattle.requested_fragments.proofs.table.next.Goals as goal
-
 
 pub returns-then-k-eq0 : goal.returns-then-k-eq0
 returns-then-k-eq0 c =

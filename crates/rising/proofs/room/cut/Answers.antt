@@ -1,8 +1,7 @@
 -- `cut` meets its contract. Assumes nothing.
-use Rattle.std.proofs.Common.{◌-◌, ap}
+use Rattle.std.proofs.Common.{ap}
 use Rattle.rising.proofs.Rooms.{back, cut_some}
 use Rattle.rising.proofs.room.cut.Goals as goal
-
 
 pub returns : goal.returns
 returns c =

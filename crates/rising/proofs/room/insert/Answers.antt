@@ -3,7 +3,6 @@ use Rattle.std.proofs.Common.{rules}
 use Rattle.rising.proofs.Inserts.{place_in, insert-held, insert-full, insert-put}
 use Rattle.rising.proofs.room.insert.Goals as goal
 
-
 pub returns-then-held_at : goal.returns-then-held_at
 returns-then-held_at c =
     let args = c.args in

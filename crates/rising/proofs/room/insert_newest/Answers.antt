@@ -4,7 +4,6 @@ use Rattle.rising.proofs.Rooms.{back}
 use Rattle.rising.proofs.Inserts.{newest-room, full-place, newest-same, newest_other}
 use Rattle.rising.proofs.room.insert_newest.Goals as goal
 
-
 pub returns-then-count-s : goal.returns-then-count-s
 returns-then-count-s c = newest-room c.args.count c.args.n c.args.s.now c.if-count-s.true c.insert.result c.insert.new.s c.insert.ensures
 

@@ -1,8 +1,7 @@
 -- `open` meets its contract. Assumes nothing.
-use Rattle.std.proofs.Common.{ℕ, ◌+◌, ◌-◌, ap}
+use Rattle.std.proofs.Common.{ℕ, ◌+◌, ap}
 use Rattle.rising.proofs.Rooms.{back, open_done}
 use Rattle.rising.proofs.room.open.Goals as goal
-
 
 pub returns : goal.returns
 returns c =

@@ -1,10 +1,9 @@
 -- `copy` meets its contract. Assumes nothing.
-use Rattle.std.proofs.Common.{ℕ, ◌-◌, ◌<◌, List, length, get_or, set, sym, ap, ◌∙◌, arith, length-set}
+use Rattle.std.proofs.Common.{ℕ, ◌<◌, List, length, get_or, set, sym, ap, ◌∙◌, arith, length-set}
 use Rattle.rising.specs.Runs.{filled}
 use Rattle.sets.proofs.Loops.{upto_more}
 use Rattle.rising.proofs.Lists.{filled-length, filled_at}
 use Rattle.rising.proofs.run.copy.Goals as goal
-
 
 pub loop-i-preserved : goal.loop-i-preserved
 loop-i-preserved c =

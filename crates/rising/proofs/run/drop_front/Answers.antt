@@ -4,7 +4,6 @@ use Rattle.sets.proofs.Loops.{upto, upto_more, upto_kept}
 use Rattle.rising.proofs.Lists.{dropped, dropped-length, dropped_front, dropped-done}
 use Rattle.rising.proofs.run.drop_front.Goals as goal
 
-
 pub loop-i-preserved : goal.loop-i-preserved
 loop-i-preserved c =
     let s₀ = c.args.s.now in

@@ -3,7 +3,6 @@ use Rattle.rising.proofs.Scans.{holds_in_lem, holds_out}
 use Rattle.std.proofs.Common.{rules}
 use Rattle.rising.proofs.run.holds_at.Goals as goal
 
-
 pub returns-then-i-s : goal.returns-then-i-s
 returns-then-i-s c = search (rules, holds_in_lem)
 

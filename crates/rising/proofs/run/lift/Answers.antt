@@ -3,7 +3,6 @@ use Rattle.std.proofs.Common.{ℕ, ◌-◌, ◌<◌, List, get_or, sym, ap, ◌�
 use Rattle.rising.proofs.Lists.{downto_kept, downto_step, lifted, lifted_length, lifted_back}
 use Rattle.rising.proofs.run.lift.Goals as goal
 
-
 pub loop-i-preserved : goal.loop-i-preserved
 loop-i-preserved c =
     let s₀ = c.args.s.now in

@@ -2,7 +2,6 @@ use Rattle.std.proofs.Common.{◌≡◌, ◌+◌, ◌-◌, ◌*◌, ◌/◌, ◌
 use Rattle.rising.specs.Runs.{place_of}
 use Rattle.rising.proofs.run.place.Given as goal
 
-
 abbrev pub invariant-loop-j : goal.invariant-loop-j
 invariant-loop-j l = (l.fours ≡ length l.s / 4) × (l.j ≤ l.fours) × (place_of l.n l.s ≡ 4 * l.j + place_of l.n (drop (4 * l.j) l.s))
 

@@ -1,9 +1,8 @@
 -- `rises` meets its contract. Assumes nothing.
-use Rattle.std.proofs.Common.{◌-◌, ◌<◌, ltb, get_or, arith}
+use Rattle.std.proofs.Common.{◌<◌, ltb, get_or, arith}
 use lib.Bits.{and_le_l}
 use Rattle.rising.proofs.Scans.{rises-past, rises_more}
 use Rattle.rising.proofs.run.rises.Goals as goal
-
 
 pub returns-then-s-gt9223372036854775806 : goal.returns-then-s-gt9223372036854775806
 returns-then-s-gt9223372036854775806 c = rises-past c.args.above c.args.s.now (omega arith) c.if-s-gt9223372036854775806.true

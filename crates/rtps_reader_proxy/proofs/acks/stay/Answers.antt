@@ -4,7 +4,6 @@ use native.Mathlib.Omega.{arith}
 use Rattle.rtps_reader_proxy.proofs.Ends.{all_before}
 use Rattle.rtps_reader_proxy.proofs.acks.stay.Goals as goal
 
-
 pub returns-then-b-a : goal.returns-then-b-a
 returns-then-b-a c =
     let args = c.args in

@@ -10,7 +10,6 @@ use Rattle.number_sets.specs.Calls.{fragment_set}
 use Rattle.number_sets.proofs.Meaning.{onward_all}
 use Rattle.number_sets.proofs.fragment_number_set.FragmentNumberSet.reaches.Goals as goal
 
-
 pub returns : goal.returns
 returns c =
     let g = c.args.self in

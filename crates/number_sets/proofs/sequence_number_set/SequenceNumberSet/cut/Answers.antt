@@ -1,9 +1,7 @@
 -- `cut` meets its contract. Assumes nothing.
-use Prim.Native.Nat.{◌-◌}
 use Rattle.numbers.specs.Number.{rank_of}
 use Rattle.number_sets.proofs.Members.{cut_words}
 use Rattle.number_sets.proofs.sequence_number_set.SequenceNumberSet.cut.Goals as goal
-
 
 pub returns : goal.returns
 returns c =

@@ -1,9 +1,7 @@
 -- `joined` meets its contract. Assumes nothing.
-use Prim.Native.Nat.{◌-◌}
 use Rattle.numbers.specs.Number.{rank_of}
 use Rattle.number_sets.proofs.Members.{joined_words}
 use Rattle.number_sets.proofs.sequence_number_set.SequenceNumberSet.joined.Goals as goal
-
 
 pub returns : goal.returns
 returns c =

@@ -7,7 +7,6 @@ use Rattle.number_sets.specs.Bits.{next_bit}
 use Rattle.number_sets.proofs.Members.{next_bit_gives, next-none, next-over, next-some}
 use Rattle.number_sets.proofs.sequence_number_set.SequenceNumberSet.next_rank.Goals as goal
 
-
 pub returns-then-count-i : goal.returns-then-count-i
 returns-then-count-i c =
     let g = c.args in

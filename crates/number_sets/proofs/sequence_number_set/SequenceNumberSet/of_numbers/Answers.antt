@@ -1,12 +1,10 @@
 -- `of_numbers` meets its contract. Assumes nothing.
-use Prim.Native.Nat.{◌-◌}
 use mathlib.Core.Path.{◌≡◌}
 use Rattle.numbers.specs.Refusals.{answer_of}
 use Rattle.number_sets.proofs.Written.{joined_empty}
 use Rattle.numbers.proofs.Refused.{done-is, is-done}
 use Rattle.number_sets.specs.Calls.{these_numbers, written_rows, not_written, written}
 use Rattle.number_sets.proofs.sequence_number_set.SequenceNumberSet.of_numbers.Goals as goal
-
 
 pub returns : goal.returns
 returns c =

@@ -4,7 +4,6 @@ use Rattle.numbers.specs.Number.{rank_of}
 use Rattle.number_sets.proofs.Members.{size_is}
 use Rattle.number_sets.proofs.sequence_number_set.SequenceNumberSet.size.Goals as goal
 
-
 pub returns : goal.returns
 returns c =
     let g = c.args.self in

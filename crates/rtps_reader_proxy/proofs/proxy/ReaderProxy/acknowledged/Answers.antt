@@ -1,9 +1,8 @@
 -- `acknowledged` meets its contract. Assumes nothing.
-use Prim.Native.Nat.{◌-◌, max}
+use Prim.Native.Nat.{max}
 use mathlib.Core.Path.{ap, ◌∙◌}
 use Rattle.rtps_reader_proxy.proofs.AckCalls.{stayable, acknowledged-is}
 use Rattle.rtps_reader_proxy.proofs.proxy.ReaderProxy.acknowledged.Goals as goal
-
 
 pub stay-old-requires : goal.stay-old-requires
 stay-old-requires c =

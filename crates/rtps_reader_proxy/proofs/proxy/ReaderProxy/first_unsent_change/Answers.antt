@@ -4,7 +4,6 @@ use Rattle.numbers.specs.Cursor.{cursor_at}
 use Rattle.rtps_reader_proxy.proofs.UnsentCalls.{next-unsent}
 use Rattle.rtps_reader_proxy.proofs.proxy.ReaderProxy.first_unsent_change.Goals as goal
 
-
 pub returns : goal.returns
 returns c =
     let args = c.args in

@@ -2,7 +2,6 @@
 use Rattle.rtps_reader_proxy.proofs.AckCalls.{ack_refused, ackable}
 use Rattle.rtps_reader_proxy.proofs.proxy.ReaderProxy.handle_ack_nack.Goals as goal
 
-
 pub returns-then-answer-ne0 : goal.returns-then-answer-ne0
 returns-then-answer-ne0 c =
     let args = c.args in

@@ -2,7 +2,6 @@
 use Rattle.rtps_reader_proxy.proofs.GapCalls.{not_inserted, inserted}
 use Rattle.rtps_reader_proxy.proofs.proxy.ReaderProxy.insert_pending_gap.Goals as goal
 
-
 pub returns-then-answer-needs : goal.returns-then-answer-needs
 returns-then-answer-needs c =
     let args = c.args in

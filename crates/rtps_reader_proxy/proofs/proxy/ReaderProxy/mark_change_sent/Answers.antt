@@ -1,13 +1,11 @@
 -- `mark_change_sent` meets its contract. Assumes nothing.
 use mathlib.Core.Path.{refl}
-use Prim.Native.Nat.{◌-◌}
 use mathlib.Core.List.{[], ◌∷◌}
 use mathlib.Core.Bool.{true, false}
 use Rattle.numbers.specs.Number.{rank_of}
 use Rattle.numbers.specs.Refusals.{row}
 use Rattle.rtps_reader_proxy.proofs.UnsentCalls.{mark-done}
 use Rattle.rtps_reader_proxy.proofs.proxy.ReaderProxy.mark_change_sent.Goals as goal
-
 
 pub returns : goal.returns
 returns c =

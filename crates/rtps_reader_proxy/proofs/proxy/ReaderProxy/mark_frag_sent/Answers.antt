@@ -1,12 +1,11 @@
 -- `mark_frag_sent` meets its contract. Assumes nothing.
-use Prim.Native.Nat.{ℕ, ◌-◌}
+use Prim.Native.Nat.{ℕ}
 use mathlib.Core.List.{[]}
-use mathlib.Core.Bool.{true, false}
+use mathlib.Core.Bool.{true}
 use native.Mathlib.Omega.{arith}
 use Rattle.numbers.specs.Number.{rank_of}
 use Rattle.rtps_reader_proxy.proofs.FragCalls.{sent-done}
 use Rattle.rtps_reader_proxy.proofs.proxy.ReaderProxy.mark_frag_sent.Goals as goal
-
 
 pub returns : goal.returns
 returns c =

@@ -1,9 +1,8 @@
 -- `mark_frags_requested` meets its contract. Assumes nothing.
-use Prim.Native.Nat.{ℕ, ◌-◌}
+use Prim.Native.Nat.{ℕ}
 use native.Mathlib.Omega.{arith}
 use Rattle.rtps_reader_proxy.proofs.FragCalls.{request-done}
 use Rattle.rtps_reader_proxy.proofs.proxy.ReaderProxy.mark_frags_requested.Goals as goal
-
 
 pub returns : goal.returns
 returns c =

@@ -1,9 +1,8 @@
 -- `next_pending_gap` meets its contract. Assumes nothing.
-use Prim.Native.Nat.{◌-◌, max}
+use Prim.Native.Nat.{max}
 use mathlib.Core.Path.{ap, ◌∙◌}
 use Rattle.rtps_reader_proxy.proofs.GapCalls.{next-gap}
 use Rattle.rtps_reader_proxy.proofs.proxy.ReaderProxy.next_pending_gap.Goals as goal
-
 
 pub returns : goal.returns
 returns c =

@@ -3,7 +3,6 @@ use mathlib.Core.Path.{◌∙◌}
 use Rattle.rtps_reader_proxy.proofs.UnsentCalls.{next-unsent}
 use Rattle.rtps_reader_proxy.proofs.proxy.ReaderProxy.next_unsent_change.Goals as goal
 
-
 pub returns : goal.returns
 returns c =
     let args = c.args in

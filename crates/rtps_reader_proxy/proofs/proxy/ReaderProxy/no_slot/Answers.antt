@@ -1,8 +1,6 @@
 -- `no_slot` meets its contract. Assumes nothing.
-use Prim.Native.Nat.{◌-◌}
 use Rattle.rtps_reader_proxy.proofs.FragCalls.{slot_is}
 use Rattle.rtps_reader_proxy.proofs.proxy.ReaderProxy.no_slot.Goals as goal
-
 
 pub returns : goal.returns
 returns c =

@@ -2,7 +2,6 @@
 use Rattle.rtps_reader_proxy.proofs.UnsentCalls.{notify_run, notify_is}
 use Rattle.rtps_reader_proxy.proofs.proxy.ReaderProxy.notify_new_cache_change.Goals as goal
 
-
 pub join_newest-count-requires : goal.join_newest-count-requires
 join_newest-count-requires c =
     let args = c.args in

@@ -1,13 +1,11 @@
 -- `remove_from_unsent_set_all_before` meets its contract. Assumes nothing.
 use mathlib.Core.Path.{refl}
-use Prim.Native.Nat.{◌-◌}
 use mathlib.Core.List.{[], ◌∷◌}
 use mathlib.Core.Bool.{true, false}
 use Rattle.numbers.specs.Number.{rank_of}
 use Rattle.numbers.specs.Refusals.{row}
 use Rattle.rtps_reader_proxy.proofs.UnsentCalls.{before-done}
 use Rattle.rtps_reader_proxy.proofs.proxy.ReaderProxy.remove_from_unsent_set_all_before.Goals as goal
-
 
 pub returns : goal.returns
 returns c =

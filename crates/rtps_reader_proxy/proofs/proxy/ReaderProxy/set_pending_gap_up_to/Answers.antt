@@ -2,7 +2,6 @@
 use Rattle.rtps_reader_proxy.proofs.GapCalls.{up_to}
 use Rattle.rtps_reader_proxy.proofs.proxy.ReaderProxy.set_pending_gap_up_to.Goals as goal
 
-
 pub returns : goal.returns
 returns c =
     let args = c.args in

@@ -1,8 +1,6 @@
 -- `take_unsent` meets its contract. Assumes nothing.
-use Prim.Native.Nat.{◌-◌}
 use Rattle.rtps_reader_proxy.proofs.UnsentCalls.{take_done}
 use Rattle.rtps_reader_proxy.proofs.proxy.ReaderProxy.take_unsent.Goals as goal
-
 
 pub returns : goal.returns
 returns c =
