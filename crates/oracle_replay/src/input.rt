@@ -1,5 +1,20 @@
 // The input as numbers: each line is the place where the next one begins, and then its numbers. All else in it is for people.
 use crate::line::{after, put, wide};
+use std::io;
+use std::io::Read;
+
+// Reads until the room is full or the input ends.
+pub(crate) fn read_full<R: Read>(input: &mut R, room: &mut [u8]) -> io::Result<()> {
+    let mut done = 0;
+    for _ in 0..u64::MAX {
+        let n = input.read(&mut room[done..])?;
+        if n == 0 {
+            break;
+        }
+        done += n;
+    }
+    Ok(())
+}
 
 // Where the line that is being read begins, and where its next number goes.
 #[derive(Clone, Copy)]
@@ -74,7 +89,7 @@ fn noted(all: &mut [u64], next: usize, token: Token, d: u64) -> usize {
         return next;
     }
     if token.negative {
-        return put(all, next, std::num::wrapping_sub_u64(0, token.value));
+        return put(all, next, 0u64.wrapping_sub(token.value));
     }
     put(all, next, token.value)
 }

@@ -54,7 +54,7 @@ pub(crate) fn rest(line: &[u64], i: usize) -> &[u64] {
 // How many calls from the first on are as the crate's, once call i is compared.
 pub(crate) fn counted(same: u64, i: u64, all: bool) -> u64 {
     if all & (same == i) {
-        return std::num::wrapping_add_u64(same, 1);
+        return same.wrapping_add(1);
     }
     same
 }

@@ -15,59 +15,50 @@ mod reader_shown;
 mod writer;
 mod writer_shown;
 
-use input::read_numbers;
-use libc::{STDIN_FILENO, STDOUT_FILENO};
+use input::{read_full, read_numbers};
 use line::{after, at, rest};
 use reader::Replayed;
-
-// A number, and what is said of it.
-fn say(n: u64, text: &[u8]) {
-    io::print_decimal(STDOUT_FILENO, n);
-    io::write_all(STDOUT_FILENO, text);
-}
+use std::io;
 
 // All the calls of a block, or the first that differs.
-fn tell(same: u64, calls: u64) {
+fn tell(rt: &impl Print, same: u64, calls: u64) -> io::Result<()> {
     if same == calls {
-        say(calls, b" calls, as the crate\n");
-        return;
+        return println!(rt; "{calls} calls, as the crate");
     }
-    io::write_all(STDOUT_FILENO, b"call ");
-    say(
-        std::num::wrapping_add_u64(same, 1),
-        b" is not as the crate\n",
-    );
+    let first = same.wrapping_add(1);
+    println!(rt; "call {first} is not as the crate")
 }
 
 // A reader or a writer, with its calls.
-fn replay_block(all: &[u64], place: usize) -> Replayed {
+fn replay_block(rt: &impl Print, all: &[u64], place: usize) -> io::Result<Replayed> {
     let head = rest(all, after(place, 1));
     let first = at(all, place) as usize;
     let done = if at(head, 0) == 0 {
-        io::write_all(STDOUT_FILENO, b"reader ");
+        print!(rt; "reader ")?;
         reader::replay(all, head, first)
     } else {
-        io::write_all(STDOUT_FILENO, b"writer ");
+        print!(rt; "writer ")?;
         writer::replay(all, head, first)
     };
-    say(at(head, 1), b": ");
-    tell(done.same, at(head, 2));
-    done
+    let id = at(head, 1);
+    print!(rt; "{id}: ")?;
+    tell(rt, done.same, at(head, 2))?;
+    Ok(done)
 }
 
-fn run(all: &[u64]) {
+fn run(rt: &impl Print, all: &[u64]) -> io::Result<()> {
     let blocks = at(all, 1);
     let mut place = at(all, 0) as usize;
-    let mut same = 0;
+    let mut same: u64 = 0;
     let mut i = 0;
     while i < blocks {
-        let done = replay_block(all, place);
+        let done = replay_block(rt, all, place)?;
         place = done.next;
-        same = std::num::wrapping_add_u64(same, done.same);
+        same = same.wrapping_add(done.same);
         i += 1;
     }
-    say(same, b" of ");
-    say(at(all, 2), b" calls are as the crate's\n");
+    let calls = at(all, 2);
+    println!(rt; "{same} of {calls} calls are as the crate's")
 }
 
 // Room for the bytes of the list.
@@ -84,10 +75,10 @@ fn numbers_room() -> [u64; 65536]
     [0; 65536]
 }
 
-fn main() {
+fn main(rt: HostRuntime) -> io::Result<()> {
     let mut bytes = bytes_room();
     let mut all = numbers_room();
-    io::read_full(STDIN_FILENO, &mut bytes);
+    read_full(&mut rt.stdin(), &mut bytes)?;
     read_numbers(&bytes, &mut all);
-    run(&all);
+    run(&rt, &all)
 }

@@ -3,6 +3,7 @@ use crate::line::{DIFFERS, after, at, bit, counted, expect, half, number, on, re
 use crate::reader::Replayed;
 use crate::writer_shown::shown;
 use numbers::Answer;
+use numbers::arith::smaller;
 use reader_list::AckedFrontier;
 use writer_send_buffer::{Admitted, Kind, Limits, Numbered, Told, Woken, WriterSendBuffer};
 
@@ -29,7 +30,7 @@ fn admit(
     lens: &mut [u64],
     payload: &[u8],
 ) -> Admitted {
-    let n = io::count(half(line, 2) as isize, payload);
+    let n = smaller(half(line, 2) as usize, payload.len());
     flow.with_sample(store, lens, &payload[..n], at(line, 1) == 1)
 }
 

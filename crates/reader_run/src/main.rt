@@ -1,10 +1,10 @@
 // Document 01's examples of the reader record, and its edges, run: a line for each, ok or not.
 #![tactic(auto)]
 
-use libc::STDOUT_FILENO;
 use number_sets::{FragmentNumberSet, SequenceNumberSet};
 use numbers::{FragmentCursor, FragmentNumber, SequenceNumber};
 use rtps_reader_proxy::ReaderProxy;
+use std::io;
 
 fn reader(acked: i64, cap: usize, count: usize) -> ReaderProxy {
     ReaderProxy {
@@ -33,11 +33,11 @@ fn pieces(base: u32, count: u32, word: u32) -> FragmentNumberSet {
     }
 }
 
-fn tell(ok: bool) {
+fn tell(rt: &impl Print, ok: bool) -> io::Result<()> {
     if ok {
-        io::write_all(STDOUT_FILENO, b"ok\n");
+        rt.println("ok")
     } else {
-        io::write_all(STDOUT_FILENO, b"not ok\n");
+        rt.println("not ok")
     }
 }
 
@@ -159,24 +159,24 @@ fn cap(n: usize, answer: u32) -> bool {
     a.number == answer
 }
 
-fn main() {
-    tell(from_four(asks(6, 0, 0), 0, 6, 0, 0, 0, 0));
-    tell(from_four(asks(7, 0, 0), 12, 3, 1, 4, 0, 0));
-    tell(from_four(asks(2, 5, 0xB8000000), 0, 3, 2, 4, 5, 0));
-    tell(from_four(asks(3, 3, 0xA0000000), 0, 3, 3, 3, 4, 5));
-    tell(from_four(asks(-1, 0, 0), 2, 3, 1, 4, 0, 0));
-    tell(fresh());
-    tell(cap_met());
-    tell(newest_kept());
-    tell(bits(256, 0));
-    tell(bits(257, 3));
-    tell(f1());
-    tell(f2());
-    tell(f3(4096, 0));
-    tell(f3(4097, 2));
-    tell(f3(0, 2));
-    tell(cap(0, 13));
-    tell(cap(1, 0));
-    tell(cap(1024, 0));
-    tell(cap(1025, 13));
+fn main(rt: HostRuntime) -> io::Result<()> {
+    tell(&rt, from_four(asks(6, 0, 0), 0, 6, 0, 0, 0, 0))?;
+    tell(&rt, from_four(asks(7, 0, 0), 12, 3, 1, 4, 0, 0))?;
+    tell(&rt, from_four(asks(2, 5, 0xB8000000), 0, 3, 2, 4, 5, 0))?;
+    tell(&rt, from_four(asks(3, 3, 0xA0000000), 0, 3, 3, 3, 4, 5))?;
+    tell(&rt, from_four(asks(-1, 0, 0), 2, 3, 1, 4, 0, 0))?;
+    tell(&rt, fresh())?;
+    tell(&rt, cap_met())?;
+    tell(&rt, newest_kept())?;
+    tell(&rt, bits(256, 0))?;
+    tell(&rt, bits(257, 3))?;
+    tell(&rt, f1())?;
+    tell(&rt, f2())?;
+    tell(&rt, f3(4096, 0))?;
+    tell(&rt, f3(4097, 2))?;
+    tell(&rt, f3(0, 2))?;
+    tell(&rt, cap(0, 13))?;
+    tell(&rt, cap(1, 0))?;
+    tell(&rt, cap(1024, 0))?;
+    tell(&rt, cap(1025, 13))
 }

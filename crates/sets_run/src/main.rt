@@ -1,15 +1,15 @@
 // Document 01's examples of sets, and sets at the edges of the numbers, run: a line for each, ok or not.
 #![tactic(auto)]
 
-use libc::STDOUT_FILENO;
 use number_sets::{FragmentNumberSet, SequenceNumberSet};
 use numbers::{Cursor, FragmentCursor, FragmentNumber, SequenceNumber};
+use std::io;
 
-fn tell(ok: bool) {
+fn tell(rt: &impl Print, ok: bool) -> io::Result<()> {
     if ok {
-        io::write_all(STDOUT_FILENO, b"ok\n");
+        rt.println("ok")
     } else {
-        io::write_all(STDOUT_FILENO, b"not ok\n");
+        rt.println("not ok")
     }
 }
 
@@ -81,37 +81,46 @@ fn changed() -> bool {
     (all.count == 256) & (all.size() == 3) & (some.size() == 1) & lists(some, 0, 1, 12, 7)
 }
 
-fn main() {
+fn main(rt: HostRuntime) -> io::Result<()> {
     let s1 = set(10, 3, 0xA0000000, 0xFFFFFFFF);
-    tell(lists(s1, 0, 2, 10, 12));
-    tell(next(s1, 0, 0, 10, 11));
-    tell(next(s1, 11, 0, 12, 13));
-    tell(next(s1, 13, 14, 0, 0));
-    tell(lists_fragments(fragments(10, 3, 0xA0000000, 1), 0, 2, 10, 12));
+    tell(&rt, lists(s1, 0, 2, 10, 12))?;
+    tell(&rt, next(s1, 0, 0, 10, 11))?;
+    tell(&rt, next(s1, 11, 0, 12, 13))?;
+    tell(&rt, next(s1, 13, 14, 0, 0))?;
+    tell(
+        &rt,
+        lists_fragments(fragments(10, 3, 0xA0000000, 1), 0, 2, 10, 12),
+    )?;
     // s3
-    tell(lists(set(1, 256, 0x80000000, 1), 0, 2, 1, 256));
-    tell(lists(set(1, 257, 0x80000000, 1), 3, 0, 7, 7));
-    tell(next(set(1, 257, 0x80000000, 1), 0, 3, 0, 0));
-    tell(lists_fragments(fragments(1, 257, 1, 1), 3, 0, 7, 7));
+    tell(&rt, lists(set(1, 256, 0x80000000, 1), 0, 2, 1, 256))?;
+    tell(&rt, lists(set(1, 257, 0x80000000, 1), 3, 0, 7, 7))?;
+    tell(&rt, next(set(1, 257, 0x80000000, 1), 0, 3, 0, 0))?;
+    tell(&rt, lists_fragments(fragments(1, 257, 1, 1), 3, 0, 7, 7))?;
     // A base of 0, and one below it; 3 comes before 2.
-    tell(lists(set(0, 2, 0xC0000000, 0), 0, 2, 0, 1));
-    tell(lists(set(-1, 2, 0xC0000000, 0), 2, 0, 7, 7));
-    tell(lists(set(-1, 257, 0xC0000000, 0), 3, 0, 7, 7));
+    tell(&rt, lists(set(0, 2, 0xC0000000, 0), 0, 2, 0, 1))?;
+    tell(&rt, lists(set(-1, 2, 0xC0000000, 0), 2, 0, 7, 7))?;
+    tell(&rt, lists(set(-1, 257, 0xC0000000, 0), 3, 0, 7, 7))?;
     // The last numbers, and past them.
     let high = set(9223372036854775807, 256, 0xC0000000, 1);
-    tell(lists(high, 0, 3, 9223372036854775807, 9223372036854775808));
-    tell(next(high, 0, 0, 9223372036854775807, 9223372036854775808));
-    tell(next(high, 9223372036854775808, 14, 0, 0));
-    tell(high.size() == 3);
+    tell(
+        &rt,
+        lists(high, 0, 3, 9223372036854775807, 9223372036854775808),
+    )?;
+    tell(
+        &rt,
+        next(high, 0, 0, 9223372036854775807, 9223372036854775808),
+    )?;
+    tell(&rt, next(high, 9223372036854775808, 14, 0, 0))?;
+    tell(&rt, high.size() == 3)?;
     let top = fragments(4294967295, 256, 0xC0000000, 0);
-    tell(lists_fragments(top, 0, 2, 4294967295, 4294967296));
-    tell(next_fragment(top, 0, 0, 4294967295, 4294967296));
-    tell(next_fragment(top, 4294967296, 14, 0, 0));
+    tell(&rt, lists_fragments(top, 0, 2, 4294967295, 4294967296))?;
+    tell(&rt, next_fragment(top, 0, 0, 4294967295, 4294967296))?;
+    tell(&rt, next_fragment(top, 4294967296, 14, 0, 0))?;
     // The way back.
-    tell(written(10, 10, 265, 0, 256));
-    tell(written(10, 12, 266, 3, 0));
-    tell(written(10, 9, 12, 2, 0));
-    tell(written(10, 9, 300, 3, 0));
-    tell(written(-1, 0, 1, 2, 0));
-    tell(changed());
+    tell(&rt, written(10, 10, 265, 0, 256))?;
+    tell(&rt, written(10, 12, 266, 3, 0))?;
+    tell(&rt, written(10, 9, 12, 2, 0))?;
+    tell(&rt, written(10, 9, 300, 3, 0))?;
+    tell(&rt, written(-1, 0, 1, 2, 0))?;
+    tell(&rt, changed())
 }

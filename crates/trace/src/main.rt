@@ -3,8 +3,9 @@
 
 ghost use Rattle.std.specs.Prelude.{◌≡◌, ◌≤◌, length};
 
-use libc::{STDERR_FILENO, STDIN_FILENO, STDOUT_FILENO};
 use numbers::arith::smaller;
+use std::env::{Env, FillError};
+use std::io::{Input, Read};
 use trace_answers::Answering;
 use trace_words::put_explained;
 
@@ -25,15 +26,18 @@ struct Filled {
     reading: bool,
 }
 
-fn read_piece(reading: bool, piece: &mut [u8]) -> usize {
+// A read that fails is told, and ends the input.
+fn read_piece(rt: &(impl Input + Eprint), reading: bool, piece: &mut [u8]) -> usize {
     if !reading {
         return 0;
     }
-    let got = libc::read(STDIN_FILENO, piece);
-    if got < 0 {
-        os::fail(b"trace: standard input");
+    match rt.reader().read(piece) {
+        Ok(bytes) => bytes,
+        Err(why) => {
+            let _ = eprintln!(rt; "trace: standard input: {why}");
+            0
+        }
     }
-    io::count(got, piece)
 }
 
 // The input's end ends a line that has begun.
@@ -47,8 +51,8 @@ fn end_line(open: bool, piece: &mut [u8]) -> usize {
     0
 }
 
-fn next_piece(reading: bool, open: bool, piece: &mut [u8]) -> Filled {
-    let bytes = read_piece(reading, piece);
+fn next_piece(rt: &(impl Input + Eprint), reading: bool, open: bool, piece: &mut [u8]) -> Filled {
+    let bytes = read_piece(rt, reading, piece);
     if 0 < bytes {
         return Filled {
             bytes,
@@ -61,10 +65,9 @@ fn next_piece(reading: bool, open: bool, piece: &mut [u8]) -> Filled {
     }
 }
 
-fn write_out(out: &[u8], filled: usize) -> bool {
-    let start = 0;
+fn write_out(rt: &impl Print, out: &[u8], filled: usize) -> bool {
     let n = smaller(filled, out.len());
-    io::write_all(STDOUT_FILENO, &out[start..n])
+    rt.write_all(&out[..n]).is_ok()
 }
 
 // The place after the next newline, or the end: in words, one line is answered at a time.
@@ -119,13 +122,13 @@ fn in_words(explain: bool, a: Answering, line: &[u8], out: &mut [u8]) -> usize {
 
 impl Run {
     // Where all of the piece is answered, the next one is read.
-    fn refilled(self, piece: &mut [u8]) -> Run {
+    fn refilled(self, rt: &(impl Input + Eprint), piece: &mut [u8]) -> Run {
         let a = self.answering;
         let cut = a.cut;
         if (cut.at < self.bytes) | self.failed {
             return self;
         }
-        let next = next_piece(self.reading, a.is_open(), piece);
+        let next = next_piece(rt, self.reading, a.is_open(), piece);
         let answering = a.at_next_piece();
         Run {
             answering,
@@ -136,9 +139,16 @@ impl Run {
     }
 
     // What was put is written.
-    fn after(self, explain: bool, a: Answering, line: &[u8], out: &mut [u8]) -> Run {
+    fn after(
+        self,
+        rt: &impl Print,
+        explain: bool,
+        a: Answering,
+        line: &[u8],
+        out: &mut [u8],
+    ) -> Run {
         let filled = in_words(explain, a, line, out);
-        let ok = write_out(out, filled);
+        let ok = write_out(rt, out, filled);
         let answering = a.with_nothing_waiting();
         Run {
             answering,
@@ -151,6 +161,7 @@ impl Run {
 
 // To the end of the input. (The count of turns ends it after 2 ^ 64 turns.)
 fn to_the_end(
+    rt: &(impl Input + Print + Eprint),
     explain: bool,
     piece: &mut [u8],
     line: &mut [u8],
@@ -167,35 +178,32 @@ fn to_the_end(
         failed: false,
     };
     let start = 0;
-    let mut turns: u64 = 18446744073709551615;
-    while 0 < turns {
-        r = r.refilled(piece);
+    for _ in 0..u64::MAX {
+        r = r.refilled(rt, piece);
         let now = r.answering;
         let cut = now.cut;
         let n = reach(explain, piece, cut.at, r.bytes);
         let a = now.answer_piece(&piece[start..n], line, out, store, large, small);
-        r = r.after(explain, a, line, out);
+        r = r.after(rt, explain, a, line, out);
         if r.bytes == 0 {
-            turns = 0;
-        } else {
-            turns -= 1;
+            break;
         }
     }
     r.failed
 }
 
-fn start(explain: bool) {
-    let mut piece = io::large_buffer();
+fn start(rt: &(impl Input + Print + Eprint), explain: bool) {
+    let mut piece = [0u8; 65536];
     let mut line = [0u8; 512];
-    let mut out = io::large_buffer();
+    let mut out = [0u8; 65536];
     let mut store = [0u8; 4096];
     let mut large = [0u64; 4352];
     let mut small = [0u64; 544];
     let failed = to_the_end(
-        explain, &mut piece, &mut line, &mut out, &mut store, &mut large, &mut small,
+        rt, explain, &mut piece, &mut line, &mut out, &mut store, &mut large, &mut small,
     );
     if failed {
-        io::write_all(STDERR_FILENO, b"trace: can't write the answers\n");
+        let _ = eprintln!(rt; "trace: can't write the answers");
     }
 }
 
@@ -214,17 +222,29 @@ fn same(a: &[u8], b: &[u8]) -> bool {
     true
 }
 
-fn main() {
-    let count = os::arg_count();
-    if count < 2 {
-        start(false);
+// Whether the program was given so many arguments, or more.
+fn is_given(rt: &impl Env, count: usize) -> bool {
+    let mut start = [0u8; 1];
+    !matches!(rt.arg(count, &mut start), Err(FillError::NotPresent))
+}
+
+// The first argument, as it stands in the room; nothing where it is longer.
+fn first_argument<'a>(rt: &impl Env, room: &'a mut [u8]) -> &'a [u8] {
+    match rt.arg(1, room) {
+        Ok(bytes) => &room[..bytes],
+        Err(_) => &[],
+    }
+}
+
+fn main(rt: HostRuntime) {
+    if !is_given(&rt, 1) {
+        start(&rt, false);
         return;
     }
-    let mut word = io::buffer();
-    let n = os::arg(1, &mut word);
-    if (count == 2) & same(&word[..n], b"--explain") {
-        start(true);
+    let mut word = [0u8; 16];
+    if !is_given(&rt, 2) & same(first_argument(&rt, &mut word), b"--explain") {
+        start(&rt, true);
         return;
     }
-    io::write_all(STDERR_FILENO, b"usage: trace [--explain] <TRACE\n");
+    let _ = eprintln!(rt; "usage: trace [--explain] <TRACE");
 }
