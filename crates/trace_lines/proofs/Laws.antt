@@ -10,7 +10,7 @@ use lib.ListN.{length, drop, get_or}
 use borrow.Author.Tests.{eq-eqb, ne_eqb, leb-true, ltb-true}
 use Rattle.sets.proofs.Loops.{here, done}
 use Rattle.sets.proofs.Bools.{and_left, and_right}
-use Rattle.trace_lines.specs.Words.{rest, bad, past_key, nothing, is_digit, up_to63, digits_read, not_anumber, number_to, read_of}
+use Rattle.trace_lines.specs.Words.{rest, bad, past_key, nothing, is_digit, up_to63, digits_read, not_a_number, number_to, read_of}
 
 -- ---- a key
 module _ (k s : List ℕ) (at j : ℕ) where
@@ -54,7 +54,7 @@ module _ (s : List ℕ) (i : ℕ) (v : ℕ) where
   pub to_is : read_of s (number_to v i) ≡ up_to63 v (drop i s)
   to_is = go (ltb v 9223372036854775808)
     where
-      go : (t : Bool) → read_of s (cond t (record { value = v; next = record { at = i; ok = true } }) not_anumber) ≡ cond t (record { value = v; after = rest (drop i s) }) nothing
+      go : (t : Bool) → read_of s (cond t (record { value = v; next = record { at = i; ok = true } }) not_a_number) ≡ cond t (record { value = v; after = rest (drop i s) }) nothing
       go true = refl
       go false = refl
 
@@ -77,7 +77,7 @@ fits_one v k h = le_trans (rw mul-one at (mul-le-mul_left v (pow_some k))) h
 pub to_small : (v i : ℕ) → (number_to v i).value < 9223372036854775808
 to_small v i = go (ltb v 9223372036854775808) refl
   where
-    go : (t : Bool) → ltb v 9223372036854775808 ≡ t → (cond t (record { value = v; next = record { at = i; ok = true } }) not_anumber).value < 9223372036854775808
+    go : (t : Bool) → ltb v 9223372036854775808 ≡ t → (cond t (record { value = v; next = record { at = i; ok = true } }) not_a_number).value < 9223372036854775808
     go true e = ltb-true v 9223372036854775808 e
     go false e = omega arith
 

@@ -79,11 +79,11 @@ line_ended (rest (b ∷ s)) = false
 abbrev pub rest_of : List ℕ → Place → Rest
 rest_of s c = cond c.ok (rest (drop c.at s)) bad
 
-abbrev pub not_anumber : Number
-not_anumber = record { value = 0; next = record { at = 0; ok = false } }
+abbrev pub not_a_number : Number
+not_a_number = record { value = 0; next = record { at = 0; ok = false } }
 
 abbrev pub number_to : ℕ → ℕ → Number
-number_to v at = cond (ltb v 9223372036854775808) (record { value = v; next = record { at = at; ok = true } }) not_anumber
+number_to v at = cond (ltb v 9223372036854775808) (record { value = v; next = record { at = at; ok = true } }) not_a_number
 
 -- what the code's number says of the line s
 abbrev pub read_of : List ℕ → Number → Read

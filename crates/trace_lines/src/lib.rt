@@ -3,7 +3,7 @@
 #![tactic(auto)]
 
 ghost use Rattle.std.specs.Prelude.{◌≡◌, true, ◌-◌};
-ghost use Rattle.trace_lines.specs.Words.{is_digit, rest_of, after_key, not_anumber, number_to, NumberRead, line_ended, pair_of, two};
+ghost use Rattle.trace_lines.specs.Words.{is_digit, rest_of, after_key, not_a_number, number_to, NumberRead, line_ended, pair_of, two};
 
 pub mod command;
 mod set;
@@ -46,7 +46,7 @@ fn left_of(len: usize, at: usize) -> usize
 }
 
 fn no_number() -> Number
-    ensures { result ≡ not_anumber }
+    ensures { result ≡ not_a_number }
 {
     Number {
         value: 0,
