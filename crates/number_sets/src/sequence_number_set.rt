@@ -10,7 +10,7 @@ ghost use Rattle.number_sets.specs.Calls.{sequence_set, set_rows, sequence_rows,
 use crate::words;
 use crate::words::Bits;
 use numbers::arith::smaller;
-use numbers::{Answer, Cursor, NextNumber, SequenceNumber};
+use numbers::{Answer, Cursor, NextNumber, Refusal, SequenceNumber};
 
 #[repr(C)]
 #[derive(Clone, Copy)]
@@ -55,9 +55,9 @@ pub(crate) fn set_answer(bits: bool, range: bool, none: bool) -> Answer
     ensures { result ≡ answer_of (or_none (set_rows bits range) none) }
 {
     Answer::done()
-        .unless(none, Answer::NOTHING)
-        .unless(range, Answer::RANGE)
-        .unless(bits, Answer::BITS)
+        .unless(none, Refusal::Nothing)
+        .unless(range, Refusal::Range)
+        .unless(bits, Refusal::Bits)
 }
 
 // The members of a set, rising, in a room from its start, as far as they fit; how many they are in all.

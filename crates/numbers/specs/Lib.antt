@@ -2,6 +2,7 @@
 pub mod Capacities
 pub mod Number
 pub mod Refusals
+pub mod Refusal
 pub mod Answers
 pub mod Promise
 pub mod Cursor

@@ -1,13 +1,24 @@
 // The numbers returned, and the one place that puts them in order.
 ghost use Rattle.std.specs.Prelude.{◌≡◌, refl, cond, not, [], ◌∷◌, eqb};
+ghost use Rattle.numbers.specs.Refusal.{number_of};
 ghost use Rattle.numbers.specs.Refusals.{row, answer_at, answer_of, done};
+
+use crate::refusal::{Numbered, Refusal};
 
 // A call's answer: 0, or the number of the first row that holds; and the place that it is about, where a number has one. None has today.
 #[repr(C)]
-#[derive(Clone, Copy)]
+#[derive(Clone, Copy, Debug, PartialEq, Eq)]
 pub struct Answer {
     pub number: u32,
     pub place: u32,
+}
+
+// A yes or no.
+#[repr(C)]
+#[derive(Clone, Copy, Debug, PartialEq, Eq)]
+pub struct Told {
+    pub answer: Answer,
+    pub yes: bool,
 }
 
 // The number of a row that holds, or what the rows after it give.
@@ -18,54 +29,6 @@ fn row(number: u32, holds: bool, rest: u32) -> u32
 }
 
 impl Answer {
-    // Done.
-    pub const DONE: u32 = 0;
-
-    // A record or buffer isn't coherent.
-    pub const INCOHERENT: u32 = 1;
-
-    // A number is out of its range.
-    pub const RANGE: u32 = 2;
-
-    // A set has more than 256 bits.
-    pub const BITS: u32 = 3;
-
-    // The payload is longer than a slot.
-    pub const PAYLOAD: u32 = 4;
-
-    // Sequence numbers are used up.
-    pub const USED_UP: u32 = 5;
-
-    // The write would block.
-    pub const WOULD_BLOCK: u32 = 6;
-
-    // The store is full.
-    pub const STORE_FULL: u32 = 7;
-
-    // The reader list is full.
-    pub const READERS_FULL: u32 = 8;
-
-    // The gap set is full.
-    pub const GAPS_FULL: u32 = 9;
-
-    // The fragment slots are full.
-    pub const FRAGS_FULL: u32 = 10;
-
-    // The reader id is 0, unknown, or already there.
-    pub const READER: u32 = 11;
-
-    // The acknowledgement's base is above last + 1: ignored.
-    pub const AHEAD: u32 = 12;
-
-    // A capacity or limit isn't allowed.
-    pub const LIMIT: u32 = 13;
-
-    // Nothing is there: no sample, unsent number or fragment.
-    pub const NOTHING: u32 = 14;
-
-    // A trace line isn't understood.
-    pub const LINE: u32 = 15;
-
     // The order in which they apply.
     pub const ORDER: [u32; 14] = [13, 1, 3, 2, 11, 12, 4, 5, 6, 7, 8, 9, 10, 14];
 
@@ -76,27 +39,34 @@ impl Answer {
         Answer { number, place: 0 }
     }
 
+    // The answer of a call that is refused so, whatever else holds.
+    pub fn refused(by: Refusal) -> Answer
+        ensures { result ≡ answer_at (number_of by) }
+    {
+        Answer::at(by.number())
+    }
+
     // The answer of a call that no row refuses.
     pub fn done() -> Answer
         ensures { result ≡ done }
     {
-        Answer::at(Answer::DONE)
+        Answer::at(0)
     }
 
     // This answer, unless a row that comes before it holds. A call's rows are so given from the last to the first, as the table
     // has them: in another order, or with a number that isn't the row's, no caller meets its contract.
-    pub fn unless(self, holds: bool, number: u32) -> Answer
-        ensures { result ≡ answer_at (cond holds number self.number) }
+    pub fn unless<N: Numbered>(self, holds: bool, number: N) -> Answer
+        ensures { result ≡ answer_at (cond holds (N.number number) self.number) }
     {
         let after = self.number;
-        Answer::at(row(number, holds, after))
+        Answer::at(row(number.number(), holds, after))
     }
 
     // The answer of a call that only what isn't coherent refuses.
     pub fn coherence(coherent: bool) -> Answer
         ensures { result ≡ answer_of (row 1 refl (not coherent) ∷ []) }
     {
-        Answer::done().unless(!coherent, Answer::INCOHERENT)
+        Answer::done().unless(!coherent, Refusal::Incoherent)
     }
 
     // The answer of a question that finds something or nothing.
@@ -104,15 +74,15 @@ impl Answer {
         ensures { result ≡ answer_of (row 1 refl (not coherent) ∷ row 14 refl none ∷ []) }
     {
         Answer::done()
-            .unless(none, Answer::NOTHING)
-            .unless(!coherent, Answer::INCOHERENT)
+            .unless(none, Refusal::Nothing)
+            .unless(!coherent, Refusal::Incoherent)
     }
 
     // The answer to a trace line that isn't understood: no call's, and in no order with theirs.
     pub fn not_understood() -> Answer
         ensures { result ≡ answer_at 15 }
     {
-        Answer::at(Answer::LINE)
+        Answer::refused(Refusal::Line)
     }
 
     // Whether the call was done and not refused.

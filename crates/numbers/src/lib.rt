@@ -6,9 +6,11 @@ pub mod answers;
 pub mod arith;
 pub mod cursor;
 pub mod fragment_number;
+pub mod refusal;
 pub mod sequence_number;
 
-pub use answer::Answer;
+pub use answer::{Answer, Told};
 pub use cursor::{Cursor, FragmentCursor, NextFragment, NextNumber};
 pub use fragment_number::FragmentNumber;
+pub use refusal::Refusal;
 pub use sequence_number::SequenceNumber;

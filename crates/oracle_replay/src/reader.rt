@@ -2,7 +2,7 @@
 use crate::line::{DIFFERS, after, at, counted, half, number, on, rest, words_of};
 use crate::reader_shown::shown;
 use number_sets::{FragmentNumberSet, SequenceNumberSet};
-use numbers::{Answer, FragmentNumber};
+use numbers::{FragmentNumber, Refusal};
 use rtps_reader_proxy::ReaderProxy;
 use rtps_reader_proxy::proxy::Changed;
 
@@ -40,7 +40,7 @@ fn done(line: &[u64], r: Changed) -> Made {
     let head = r.proxy;
     Made {
         head,
-        at: on(shown_from(at(line, 0)), answer.number == Answer::DONE),
+        at: on(shown_from(at(line, 0)), answer.is_done()),
     }
 }
 
@@ -61,9 +61,9 @@ fn fragments_asked(line: &[u64]) -> FragmentNumberSet {
 // What an ACKNACK has to be answered.
 fn ack_answer(line: &[u64]) -> u32 {
     if number(line, 11).rank() + 1 < number(line, 1).rank() {
-        return Answer::AHEAD;
+        return Refusal::Ahead as u32;
     }
-    Answer::DONE
+    0
 }
 
 fn ack(line: &[u64], old: ReaderProxy, unsent: &mut [u64], gaps: &mut [u64]) -> Made {

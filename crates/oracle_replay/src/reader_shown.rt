@@ -1,7 +1,7 @@
 // What a reader record shows, against what the crate showed: all of it.
 use crate::line::{DIFFERS, after, at, bit, expect, number, on, rest};
 use numbers::arith::smaller;
-use numbers::{Answer, Cursor, FragmentCursor, NextNumber};
+use numbers::{Answer, Cursor, FragmentCursor, NextNumber, Refusal};
 use rtps_reader_proxy::ReaderProxy;
 
 // A walk through the unsent numbers, or the pending gap, beside the line.
@@ -55,7 +55,7 @@ fn walked(line: &[u64], head: ReaderProxy, room: &[u64], gap: bool, i: usize) ->
         k += 1;
     }
     let answer = next(head, room, gap, walk.from).answer;
-    on(walk.at, answer.number == Answer::NOTHING)
+    on(walk.at, answer == Answer::refused(Refusal::Nothing))
 }
 
 // The 64 words of an entry: those of the line, and zeros.

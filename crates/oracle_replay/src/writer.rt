@@ -2,7 +2,7 @@
 use crate::line::{DIFFERS, after, at, bit, counted, expect, half, number, on, rest};
 use crate::reader::Replayed;
 use crate::writer_shown::shown;
-use numbers::Answer;
+use numbers::Refusal;
 use numbers::arith::smaller;
 use reader_list::AckedFrontier;
 use writer_send_buffer::{Admitted, Kind, Limits, Numbered, Told, Woken, WriterSendBuffer};
@@ -39,9 +39,9 @@ fn written(line: &[u64], told: Numbered) -> usize {
     let place = after(3, at(line, 2) as usize);
     let answer = told.answer;
     let expected = if at(line, place) == 0 {
-        Answer::WOULD_BLOCK
+        Refusal::WouldBlock as u32
     } else {
-        Answer::DONE
+        0
     };
     let now = on(place, answer.number == expected);
     expect(line, expect(line, now, told.number.rank()), 0)
@@ -92,7 +92,7 @@ fn woken(line: &[u64], r: Woken) -> Made {
     let told = r.told;
     let answer = told.answer;
     let flow = r.flow;
-    let now = on(told_from(at(line, 0)), answer.number == Answer::DONE);
+    let now = on(told_from(at(line, 0)), answer.is_done());
     Made {
         flow,
         at: expect(line, expect(line, now, 0), bit(told.yes)),

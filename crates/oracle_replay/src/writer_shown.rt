@@ -1,6 +1,6 @@
 // What a send buffer shows, against what the crate showed: all of it.
 use crate::line::{DIFFERS, after, at, bit, expect, number, on, wide};
-use numbers::Answer;
+use numbers::{Answer, Refusal};
 use writer_send_buffer::WriterSendBuffer;
 
 // The bytes of a sample: as many as the line says, and these.
@@ -26,10 +26,10 @@ fn fetch_shown(
     let found = flow.locate(store.len(), lens, n);
     let answer = found.answer;
     let now = after(i, 1);
-    if answer.number == Answer::NOTHING {
+    if answer == Answer::refused(Refusal::Nothing) {
         return expect(line, now, 0);
     }
-    if answer.number != Answer::DONE {
+    if !answer.is_done() {
         return DIFFERS;
     }
     bytes_shown(line, found.part(store), expect(line, now, 1))
@@ -39,7 +39,7 @@ fn fetch_shown(
 fn through_shown(line: &[u64], flow: WriterSendBuffer, i: usize) -> usize {
     let told = flow.is_acked_through(number(line, i));
     let answer = told.answer;
-    let now = on(after(i, 1), answer.number == Answer::DONE);
+    let now = on(after(i, 1), answer.is_done());
     expect(line, now, bit(told.yes))
 }
 

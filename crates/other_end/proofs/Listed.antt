@@ -17,7 +17,7 @@ use Rattle.reader_list.specs.declared.heads.ReaderHead.{ReaderHead}
 use Rattle.reader_list.specs.declared.calls.Front.{Front}
 use Rattle.reader_list.specs.Readers.{Head, free, frontier, place_of_id, matched, departed, readers_coherent}
 use Rattle.reader_list.specs.Slots.{readers, list_rows, cap_allowed, head_form, list_form, free_slot, frontier_at, front_of, match_of, depart_of, match_rows_of, depart_rows_of}
-use Rattle.writer_send_buffer.specs.declared.flow.Told.{Told}
+use Rattle.numbers.specs.declared.answer.Told.{Told}
 use Rattle.writer_send_buffer.specs.declared.flow.WriterSendBuffer.{WriterSendBuffer}
 use Rattle.writer_send_buffer.specs.declared.frontiers.Woken.{Woken}
 use Rattle.writer_send_buffer.specs.Flow.{Flow, stored, wakes}

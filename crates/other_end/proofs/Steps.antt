@@ -38,7 +38,7 @@ use Rattle.reader_list.specs.declared.calls.Found.{Found}
 use Rattle.reader_list.specs.Slots.{frontier_at}
 use Rattle.reader_list.proofs.Smallest.{frontier_back}
 use Rattle.writer_send_buffer.specs.declared.flow.WriterSendBuffer.{WriterSendBuffer}
-use Rattle.writer_send_buffer.specs.declared.flow.Told.{Told}
+use Rattle.numbers.specs.declared.answer.Told.{Told}
 use Rattle.writer_send_buffer.specs.Flow.{Flow, ahead, unwritten, stored, wakes, raised, evicted}
 use Rattle.writer_send_buffer.specs.Buffer.{flow_view, flow_form, flow_coherent, ranged, told_no, acked_of, sent_of, evict_of}
 use Rattle.writer_send_buffer.proofs.Sound.{Fits}

@@ -24,7 +24,7 @@ use Rattle.reader_list.specs.declared.calls.Found.{Found}
 use Rattle.reader_list.specs.Slots.{list_form, free_slot, found_of}
 use Rattle.writer_send_buffer.specs.declared.limits.Kind.{Kind}
 use Rattle.writer_send_buffer.specs.declared.limits.Limits.{Limits}
-use Rattle.writer_send_buffer.specs.declared.flow.Told.{Told}
+use Rattle.numbers.specs.declared.answer.Told.{Told}
 use Rattle.writer_send_buffer.specs.declared.flow.WriterSendBuffer.{WriterSendBuffer}
 use Rattle.writer_send_buffer.specs.Buffer.{flow_form, new_flow_of, last_of, sent_of, evict_of}
 use Rattle.writer_send_buffer.specs.Samples.{store_coherent}

@@ -7,7 +7,7 @@ ghost use Rattle.reader_list.specs.Walk.{walk_coherent, nowhere, ask_front, ask_
 use crate::calls::{Acked, Found, Front, Match};
 use crate::heads::{AckedFrontier, ReaderHead};
 use crate::walk::{Ask, Seen, begin, free_slot, walk_coherent};
-use numbers::{Answer, SequenceNumber};
+use numbers::{Answer, Refusal, SequenceNumber};
 
 // An answer, and the head to store at a place; past the end, nothing is stored.
 #[derive(Clone, Copy)]
@@ -22,11 +22,11 @@ fn list_answer(s: Seen, limit: bool, range: bool, reader: bool, full: bool) -> A
 {
     let coherent = walk_coherent(s);
     Answer::done()
-        .unless(full, Answer::READERS_FULL)
-        .unless(reader, Answer::READER)
-        .unless(range, Answer::RANGE)
-        .unless(!coherent, Answer::INCOHERENT)
-        .unless(limit, Answer::LIMIT)
+        .unless(full, Refusal::ReadersFull)
+        .unless(reader, Refusal::Reader)
+        .unless(range, Refusal::Range)
+        .unless(!coherent, Refusal::Incoherent)
+        .unless(limit, Refusal::Limit)
 }
 
 // The head to store at a place, or where the call is refused nowhere.

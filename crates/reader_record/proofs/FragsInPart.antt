@@ -38,7 +38,7 @@ use Rattle.rtps_reader_proxy.specs.Parts.{count_frags}
 use Rattle.rtps_reader_proxy.specs.declared.proxy.ReaderProxy.{ReaderProxy}
 use Rattle.rtps_reader_proxy.specs.declared.proxy.Changed.{Changed}
 use Rattle.rtps_reader_proxy.specs.declared.fragments.NextFragRequested.{NextFragRequested}
-use Rattle.rtps_reader_proxy.specs.declared.fragments.Told.{Told}
+use Rattle.numbers.specs.declared.answer.Told.{Told}
 use Rattle.rtps_reader_proxy.specs.Reader.{Reader, needs_slot, frags_requested, frag_sent}
 use Rattle.rtps_reader_proxy.specs.Record.{proxy_coherent, room_for, reader_view}
 use Rattle.rtps_reader_proxy.specs.Fragments.{frags_coherent, frags_by, request_rows, frags_requested_of, frag_sent_of, next_frag_answer, next_frag_of, repair_of}

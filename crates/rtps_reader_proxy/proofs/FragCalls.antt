@@ -40,7 +40,7 @@ use Rattle.requested_fragments.proofs.Both.{view_samples, entries_valid, rooms_a
 use Rattle.rtps_reader_proxy.specs.Parts.{count_frags}
 use Rattle.rtps_reader_proxy.specs.declared.proxy.ReaderProxy.{ReaderProxy}
 use Rattle.rtps_reader_proxy.specs.declared.proxy.Changed.{Changed}
-use Rattle.rtps_reader_proxy.specs.declared.fragments.Told.{Told}
+use Rattle.numbers.specs.declared.answer.Told.{Told}
 use Rattle.rtps_reader_proxy.specs.Reader.{Reader, needs_slot, frags_requested, frag_sent}
 use Rattle.rtps_reader_proxy.specs.Record.{proxy_coherent, room_for, changed}
 use Rattle.rtps_reader_proxy.specs.Fragments.{frags_coherent, entries_in, by_frags, frags_by, cannot_ask, no_slot, frags_requested_of, next_frag_of, next_frag_answer, repair_of}

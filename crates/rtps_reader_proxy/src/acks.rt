@@ -9,7 +9,7 @@ use crate::proxy::{ReaderProxy, last_of, room_for};
 use joined_runs::join;
 use number_sets::SequenceNumberSet;
 use numbers::answers::{earlier, in_turn};
-use numbers::{Answer, SequenceNumber, arith};
+use numbers::{Answer, Refusal, SequenceNumber, arith};
 use rising::room;
 
 #[repr(C)]
@@ -41,10 +41,10 @@ fn ack_answer(coherent: bool, bits: bool, range: bool, ahead: bool) -> Answer
     ensures { result ≡ answer_of (row 1 refl (not coherent) ∷ row 3 refl bits ∷ row 2 refl range ∷ row 12 refl ahead ∷ []) }
 {
     Answer::done()
-        .unless(ahead, Answer::AHEAD)
-        .unless(range, Answer::RANGE)
-        .unless(bits, Answer::BITS)
-        .unless(!coherent, Answer::INCOHERENT)
+        .unless(ahead, Refusal::Ahead)
+        .unless(range, Refusal::Range)
+        .unless(bits, Refusal::Bits)
+        .unless(!coherent, Refusal::Incoherent)
 }
 
 impl ReaderProxy {

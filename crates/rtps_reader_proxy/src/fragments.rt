@@ -10,7 +10,8 @@ ghost use Rattle.rtps_reader_proxy.specs.Record.{room_for, changed};
 
 use crate::proxy::{Changed, ReaderProxy, room_for};
 use number_sets::{FragmentNumberSet, SequenceNumberSet};
-use numbers::{Answer, FragmentCursor, FragmentNumber, SequenceNumber};
+pub use numbers::Told;
+use numbers::{Answer, FragmentCursor, FragmentNumber, Refusal, SequenceNumber};
 use requested_fragments::{ask, table};
 use rising::room;
 
@@ -22,14 +23,6 @@ pub struct NextFragRequested {
     pub sample: SequenceNumber,
     pub fragment: FragmentNumber,
     pub cursor: FragmentCursor,
-}
-
-// A yes or no.
-#[repr(C)]
-#[derive(Clone, Copy)]
-pub struct Told {
-    pub answer: Answer,
-    pub yes: bool,
 }
 
 // Whether a sample number or a set is such that nothing can be asked for by it.
@@ -90,10 +83,10 @@ impl ReaderProxy {
     {
         let coherent = fits & self.frags_coherent(samples, words);
         Answer::done()
-            .unless(full, Answer::FRAGS_FULL)
-            .unless(range, Answer::RANGE)
-            .unless(bits, Answer::BITS)
-            .unless(!coherent, Answer::INCOHERENT)
+            .unless(full, Refusal::FragsFull)
+            .unless(range, Refusal::Range)
+            .unless(bits, Refusal::Bits)
+            .unless(!coherent, Refusal::Incoherent)
     }
 
     // Whether a request needs a slot and finds none.

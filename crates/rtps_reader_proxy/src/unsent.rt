@@ -9,7 +9,7 @@ ghost use Rattle.rtps_reader_proxy.specs.Record.{unsent_coherent, changed};
 ghost use Rattle.rtps_reader_proxy.specs.Unsent.{notified_of, marked_sent_of, removed_before_of, taken_of, next_unsent_of, took_of};
 
 use crate::proxy::{Changed, ReaderProxy, last_of, room_for};
-use numbers::{Answer, Cursor, NextNumber, SequenceNumber, arith};
+use numbers::{Answer, Cursor, NextNumber, Refusal, SequenceNumber, arith};
 use rising::{room, run};
 
 #[repr(C)]
@@ -42,8 +42,8 @@ impl ReaderProxy {
     {
         let coherent = fits & self.unsent_coherent(unsent);
         Answer::done()
-            .unless(range, Answer::RANGE)
-            .unless(!coherent, Answer::INCOHERENT)
+            .unless(range, Refusal::Range)
+            .unless(!coherent, Refusal::Incoherent)
     }
 
     fn with_unsent(mut self, answer: Answer, count: usize) -> Changed

@@ -7,7 +7,7 @@ use Rattle.numbers.specs.declared.answer.Answer.{Answer}
 use Rattle.reader_list.specs.declared.heads.ReaderHead.{ReaderHead}
 use Rattle.writer_send_buffer.specs.declared.flow.WriterSendBuffer.{WriterSendBuffer}
 use Rattle.writer_send_buffer.specs.declared.flow.Moved.{Moved}
-use Rattle.writer_send_buffer.specs.declared.flow.Told.{Told}
+use Rattle.numbers.specs.declared.answer.Told.{Told}
 use Rattle.writer_send_buffer.specs.declared.limits.Kind.{Kind}
 use Rattle.writer_send_buffer.specs.declared.limits.Limits.{Limits}
 use Rattle.writer_send_buffer.specs.Buffer.{new_flow_of, evict_of}

@@ -7,7 +7,7 @@ use Rattle.numbers.specs.Promise.{Left1}
 use Rattle.numbers.specs.declared.answer.Answer.{Answer}
 use Rattle.reader_list.proofs.Settled.{settled}
 use Rattle.writer_send_buffer.specs.declared.flow.WriterSendBuffer.{WriterSendBuffer}
-use Rattle.writer_send_buffer.specs.declared.flow.Told.{Told}
+use Rattle.numbers.specs.declared.answer.Told.{Told}
 use Rattle.writer_send_buffer.specs.Buffer.{flow_coherent, ranged, told_no}
 
 module _ (f : WriterSendBuffer) (out : Bool) (a : Answer) (q : a ≡ answer_of (ranged (flow_coherent f) out)) where

@@ -9,7 +9,7 @@ use Rattle.reader_list.specs.Slots.{frontier_of}
 use Rattle.writer_send_buffer.specs.declared.limits.Kind.{Kind}
 use Rattle.writer_send_buffer.specs.declared.limits.Limits.{Limits}
 use Rattle.writer_send_buffer.specs.declared.flow.WriterSendBuffer.{WriterSendBuffer}
-use Rattle.writer_send_buffer.specs.declared.flow.Told.{Told}
+use Rattle.numbers.specs.declared.answer.Told.{Told}
 use Rattle.writer_send_buffer.specs.declared.flow.Numbered.{Numbered}
 use Rattle.writer_send_buffer.specs.declared.flow.Moved.{Moved}
 use Rattle.reader_list.specs.declared.heads.AckedFrontier.{AckedFrontier}

@@ -8,7 +8,7 @@ ghost use Rattle.writer_send_buffer.specs.Buffer.{questioned, numbered_no, has_r
 
 use crate::limits::{Kind, Limits};
 use numbers::arith::{above, larger};
-use numbers::{Answer, SequenceNumber};
+use numbers::{Answer, Refusal, SequenceNumber, Told};
 
 // The flow record. The payloads stand in a lent store beside it.
 #[repr(C)]
@@ -21,14 +21,6 @@ pub struct WriterSendBuffer {
     pub present: bool,
     pub kind: Kind,
     pub limits: Limits,
-}
-
-// An answer with a yes or no.
-#[repr(C)]
-#[derive(Clone, Copy)]
-pub struct Told {
-    pub answer: Answer,
-    pub yes: bool,
 }
 
 // An answer with a sequence number.
@@ -60,7 +52,7 @@ pub struct Ranks {
 fn limit_answer(limit: bool) -> Answer
     ensures { result ≡ answer_of (limited limit) }
 {
-    Answer::done().unless(limit, Answer::LIMIT)
+    Answer::done().unless(limit, Refusal::Limit)
 }
 
 impl WriterSendBuffer {
@@ -132,8 +124,8 @@ impl WriterSendBuffer {
     {
         let coherent = self.is_coherent();
         Answer::done()
-            .unless(range, Answer::RANGE)
-            .unless(!coherent, Answer::INCOHERENT)
+            .unless(range, Refusal::Range)
+            .unless(!coherent, Refusal::Incoherent)
     }
 
     // What the record is after a call: the next, or where the call is refused the same.
@@ -221,11 +213,11 @@ impl WriterSendBuffer {
         let full = self.full_for(opted);
         let used_up = last == SequenceNumber::LAST;
         Answer::done()
-            .unless(full, Answer::STORE_FULL)
-            .unless(!room, Answer::WOULD_BLOCK)
-            .unless(used_up, Answer::USED_UP)
-            .unless(bytes < len, Answer::PAYLOAD)
-            .unless(!coherent, Answer::INCOHERENT)
+            .unless(full, Refusal::StoreFull)
+            .unless(!room, Refusal::WouldBlock)
+            .unless(used_up, Refusal::UsedUp)
+            .unless(bytes < len, Refusal::Payload)
+            .unless(!coherent, Refusal::Incoherent)
     }
 
     // The oldest number retained once one more is in.

@@ -3,8 +3,8 @@ ghost use Rattle.std.specs.Prelude.{◌≡◌};
 ghost use Rattle.writer_send_buffer.specs.Flow.{wakes, stored};
 ghost use Rattle.writer_send_buffer.specs.Buffer.{flow_view, flow_form, acked_of, sent_of, evict_of, through_of, woken, moved};
 
-use crate::flow::{Moved, Told, WriterSendBuffer};
-use numbers::SequenceNumber;
+use crate::flow::{Moved, WriterSendBuffer};
+use numbers::{SequenceNumber, Told};
 use numbers::arith::larger;
 use reader_list::AckedFrontier;
 

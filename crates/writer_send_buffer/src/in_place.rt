@@ -3,8 +3,8 @@ ghost use Rattle.numbers.specs.Promise.{Gives1, Gives3};
 ghost use Rattle.writer_send_buffer.specs.Buffer.{acked_of, sent_of, evict_of};
 ghost use Rattle.writer_send_buffer.specs.Samples.{admit_of};
 
-use crate::flow::{Numbered, Told, WriterSendBuffer};
-use numbers::{Answer, SequenceNumber};
+use crate::flow::{Numbered, WriterSendBuffer};
+use numbers::{Answer, SequenceNumber, Told};
 use reader_list::AckedFrontier;
 
 impl WriterSendBuffer {

@@ -8,7 +8,8 @@ mod in_place;
 mod limits;
 mod samples;
 
-pub use flow::{Moved, Numbered, Told, WriterSendBuffer};
+pub use flow::{Moved, Numbered, WriterSendBuffer};
 pub use frontiers::Woken;
 pub use limits::{Kind, Limits};
+pub use numbers::Told;
 pub use samples::{Admitted, Fetched, Located};

@@ -21,7 +21,7 @@ use Rattle.reader_list.specs.Readers.{frontier, matched, departed, acknowledged}
 use Rattle.reader_list.specs.Slots.{readers, list_coherent, list_rows, id_unknown, match_rows, front_of, found_of}
 use Rattle.reader_list.proofs.Kept.{match_is, depart-is, ack-is}
 use Rattle.writer_send_buffer.specs.declared.flow.WriterSendBuffer.{WriterSendBuffer}
-use Rattle.writer_send_buffer.specs.declared.flow.Told.{Told}
+use Rattle.numbers.specs.declared.answer.Told.{Told}
 use Rattle.writer_send_buffer.specs.declared.frontiers.Woken.{Woken}
 use Rattle.writer_send_buffer.proofs.Steps.{at_least_0}
 use Rattle.writer_steps.specs.declared.acks.AckTold.{AckTold}

@@ -19,7 +19,7 @@ use Rattle.reader_list.specs.Slots.{readers, list_coherent, free_slot, id_unknow
 use Rattle.reader_list.specs.Slots as slots
 use Rattle.reader_list.proofs.Smallest.{frontier_back}
 use Rattle.writer_send_buffer.specs.declared.flow.WriterSendBuffer.{WriterSendBuffer}
-use Rattle.writer_send_buffer.specs.declared.flow.Told.{Told}
+use Rattle.numbers.specs.declared.answer.Told.{Told}
 use Rattle.writer_send_buffer.specs.declared.frontiers.Woken.{Woken}
 use Rattle.writer_send_buffer.specs.Flow.{ahead, stored, wakes}
 use Rattle.writer_send_buffer.specs.Buffer.{flow_view, flow_form, ranged, acked_of, told_no, woken}

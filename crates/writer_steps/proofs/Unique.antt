@@ -14,7 +14,7 @@ use Rattle.writer_send_buffer.specs.declared.flow.WriterSendBuffer.{WriterSendBu
 use Rattle.writer_steps.specs.declared.send.Sent.{Sent}
 use Rattle.writer_steps.specs.declared.many.SentMany.{SentMany}
 use Rattle.reader_list.specs.declared.calls.Match.{Match}
-use Rattle.writer_send_buffer.specs.declared.flow.Told.{Told}
+use Rattle.numbers.specs.declared.answer.Told.{Told}
 use Rattle.writer_steps.specs.declared.acks.AckTold.{AckTold}
 use Rattle.writer_steps.specs.Readers.{match_step, depart_step}
 use Rattle.writer_steps.specs.Send.{send_of}

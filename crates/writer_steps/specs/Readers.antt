@@ -13,7 +13,7 @@ use Rattle.reader_list.specs.declared.walk.Seen.{Seen}
 use Rattle.reader_list.specs.Slots.{front_of, match_of, depart_of}
 use Rattle.reader_list.specs.Walk.{match_end, depart_end, front_with}
 use Rattle.writer_send_buffer.specs.declared.flow.WriterSendBuffer.{WriterSendBuffer}
-use Rattle.writer_send_buffer.specs.declared.flow.Told.{Told}
+use Rattle.numbers.specs.declared.answer.Told.{Told}
 use Rattle.writer_send_buffer.specs.declared.frontiers.Woken.{Woken}
 use Rattle.writer_send_buffer.specs.Buffer.{flow_coherent, acked_of, told_no, woken}
 use Rattle.writer_steps.specs.declared.stores.Settled.{Settled}

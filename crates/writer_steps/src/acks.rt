@@ -7,7 +7,7 @@ use crate::stores::{after, settle, stored, with_flow};
 use number_sets::SequenceNumberSet;
 use numbers::answers::earlier;
 use numbers::arith::larger;
-use numbers::{Answer, SequenceNumber};
+use numbers::{Answer, Refusal, SequenceNumber};
 use reader_list::ahead::{asking, front_with, look_for};
 use reader_list::ends::{acked_end, found_end};
 use reader_list::walk::Seen;
@@ -50,7 +50,7 @@ fn there_for(found: Found, proxy: ReaderProxy) -> Answer
     let one = head.acked.rank();
     let other = proxy.all_acked_before.rank();
     let apart = (looked.number == 0) & !(one == other);
-    earlier(looked, Answer::done().unless(apart, Answer::INCOHERENT))
+    earlier(looked, Answer::done().unless(apart, Refusal::Incoherent))
 }
 
 // With it, whether the flow record is coherent.

@@ -5,7 +5,7 @@ ghost use Rattle.rising.specs.Runs.{filled};
 ghost use Rattle.writer_steps.specs.Many.{located_start, start_for, length_for, Placeable, emptied, send_many_of};
 
 use numbers::arith::smaller;
-use numbers::{Answer, SequenceNumber};
+use numbers::{Answer, Refusal, SequenceNumber};
 use rtps_reader_proxy::ReaderProxy;
 use writer_send_buffer::{Located, WriterSendBuffer};
 
@@ -63,10 +63,10 @@ fn places(
 fn emptied(answer: Answer, count: usize) -> Answer
     ensures { result ≡ emptied answer (eqb count 0) }
 {
-    let incoherent = answer.number == Answer::INCOHERENT;
+    let incoherent = answer.number == Refusal::Incoherent as u32;
     Answer::done()
-        .unless(count == 0, Answer::NOTHING)
-        .unless(incoherent, Answer::INCOHERENT)
+        .unless(count == 0, Refusal::Nothing)
+        .unless(incoherent, Refusal::Incoherent)
 }
 
 pub fn send_many(
