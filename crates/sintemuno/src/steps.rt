@@ -9,21 +9,17 @@ ghost use Rattle.writer_write.specs.InPlace.{Wrote, write_of};
 
 use number_sets::{FragmentNumberSet, SequenceNumberSet};
 use numbers::SequenceNumber;
-use reader_list::ahead::{look_for, look_match};
-use reader_list::calls::matched_reader_lookup;
 use reader_list::{Match, ReaderHead};
 use rtps_reader_proxy::ReaderProxy;
 use rtps_reader_proxy::proxy::Changed;
 use writer_send_buffer::{Numbered, Told, WriterSendBuffer};
-use writer_steps::acks::ack_settled;
-use writer_steps::frags::frags_settled;
+use writer_steps::acks::take_ack_nack;
+use writer_steps::frags::take_nack_frag;
 use writer_steps::many::send_many;
-use writer_steps::readers::{depart_settled, match_settled};
+use writer_steps::readers::{depart_reader, match_reader};
 use writer_steps::send::send_first;
 use writer_steps::{AckTold, Sent, SentMany};
-use writer_write::coherent::places_coherent;
-use writer_write::put::put_all;
-use writer_write::write::admitted;
+use writer_write::write::write;
 
 // The first unsent number is marked sent: as data if it is retained, else as a gap.
 #[unsafe(no_mangle)]
@@ -67,10 +63,7 @@ pub extern "C" fn sintemuno_write(
 ) -> Numbered
     ensures { Wrote result flow.new store.new lens.new proxies.new unsent.new (write_of flow.old store.old lens.old payload.now opted proxies.old unsent.old) }
 {
-    let coherent = places_coherent(proxies, unsent, true);
-    let m = admitted(*flow, store, lens, payload, opted, coherent);
-    *flow = m.flow;
-    put_all(proxies, unsent, m.numbered)
+    write(flow, store, lens, payload, opted, proxies, unsent)
 }
 
 // A match, with the frontier stored in the same step.
@@ -82,14 +75,7 @@ pub extern "C" fn sintemuno_match_reader(
 ) -> Told
     ensures { Gives2 result list.new flow.new (match_step list.old flow.old m) }
 {
-    let seen = look_match(list, m);
-    let d = match_settled(*flow, seen);
-    let at = d.at;
-    if at < list.len() {
-        list[at] = d.head;
-    }
-    *flow = d.flow;
-    d.told
+    match_reader(list, flow, m)
 }
 
 // A departure, with the frontier stored in the same step.
@@ -101,14 +87,7 @@ pub extern "C" fn sintemuno_depart_reader(
 ) -> Told
     ensures { Gives2 result list.new flow.new (depart_step list.old flow.old id) }
 {
-    let seen = look_for(list, id);
-    let d = depart_settled(*flow, seen);
-    let at = d.at;
-    if at < list.len() {
-        list[at] = d.head;
-    }
-    *flow = d.flow;
-    d.told
+    depart_reader(list, flow, id)
 }
 
 // An ACKNACK taken by reader id: the reader's record, its head's acked and the stored frontier move together.
@@ -124,14 +103,7 @@ pub extern "C" fn sintemuno_take_ack_nack(
 ) -> AckTold
     ensures { Gives4 result list.new flow.new unsent.new gaps.new (ack_step list.old flow.old id set proxy unsent.old gaps.old) }
 {
-    let seen = look_for(list, id);
-    let d = ack_settled(*flow, proxy, unsent, gaps, set, seen);
-    let at = d.at;
-    if at < list.len() {
-        list[at] = d.head;
-    }
-    *flow = d.flow;
-    d.answered
+    take_ack_nack(list, flow, proxy, unsent, gaps, id, set)
 }
 
 // A NACK_FRAG taken by reader id: the list is looked at, and the reader's record takes the request.
@@ -147,6 +119,5 @@ pub extern "C" fn sintemuno_take_nack_frag(
 ) -> Changed
     ensures { Gives2 result samples.new words.new (nack_frag_step list.now id number set proxy samples.old words.old) }
 {
-    let found = matched_reader_lookup(list, id);
-    frags_settled(found, proxy, samples, words, number, set)
+    take_nack_frag(list, proxy, samples, words, id, number, set)
 }

@@ -32,9 +32,7 @@ pub extern "C" fn sintemuno_writer_admit(
 ) -> Numbered
     ensures { Gives3 result flow.new store.new lens.new (admit_of flow.old store.old lens.old payload.now opted) }
 {
-    let m = WriterSendBuffer::with_sample(*flow, store, lens, payload, opted);
-    *flow = m.flow;
-    m.numbered
+    flow.admit(store, lens, payload, opted)
 }
 
 // Where a sample lies in a store of `room` bytes: the host cuts the part itself.
@@ -58,9 +56,7 @@ pub extern "C" fn sintemuno_writer_set_acked_frontier(
 ) -> Told
     ensures { Gives1 result flow.new (acked_of flow.old frontier) }
 {
-    let m = WriterSendBuffer::with_acked_frontier(*flow, frontier);
-    *flow = m.flow;
-    m.told
+    flow.set_acked_frontier(frontier)
 }
 
 // The answer says whether to wake who waits.
@@ -71,9 +67,7 @@ pub extern "C" fn sintemuno_writer_set_sent_frontier(
 ) -> Told
     ensures { Gives1 result flow.new (sent_of flow.old number) }
 {
-    let m = WriterSendBuffer::with_sent_frontier(*flow, number);
-    *flow = m.flow;
-    m.told
+    flow.set_sent_frontier(number)
 }
 
 #[unsafe(no_mangle)]
@@ -83,9 +77,7 @@ pub extern "C" fn sintemuno_writer_remove_changes_before(
 ) -> Answer
     ensures { Gives1 result flow.new (evict_of flow.old before) }
 {
-    let m = WriterSendBuffer::with_changes_removed(*flow, before);
-    *flow = m.flow;
-    m.answer
+    flow.remove_changes_before(before)
 }
 
 #[unsafe(no_mangle)]
