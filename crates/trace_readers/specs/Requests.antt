@@ -2,7 +2,7 @@
 use Rattle.std.specs.Prelude.{ℕ, Bool, cond, ◌&&◌, List, [], ◌∷◌, eqb, replicate}
 use Rattle.numbers.specs.Number.{number_at}
 use Rattle.numbers.specs.Refusals.{is_done, done}
-use Rattle.numbers.specs.Promise.{Left1, Left2}
+use Rattle.numbers.specs.Promise.{Left1, Left2, Left4}
 use Rattle.numbers.specs.declared.answer.Answer.{Answer}
 use Rattle.numbers.specs.declared.sequence_number.SequenceNumber.{SequenceNumber}
 use Rattle.number_sets.specs.declared.sequence_number_set.SequenceNumberSet.{SequenceNumberSet}
@@ -13,10 +13,11 @@ use Rattle.rtps_reader_proxy.specs.Unsent.{marked_sent_of}
 use Rattle.reader_list.specs.declared.calls.Found.{Found}
 use Rattle.reader_list.specs.Slots.{found_of}
 use Rattle.writer_send_buffer.specs.Buffer.{sent_of}
-use Rattle.writer_steps.specs.declared.two.AckTaken2.{AckTaken2}
+use Rattle.reader_list.specs.declared.heads.ReaderHead.{ReaderHead}
+use Rattle.writer_send_buffer.specs.declared.flow.WriterSendBuffer.{WriterSendBuffer}
+use Rattle.writer_steps.specs.declared.acks.AckTold.{AckTold}
 use Rattle.numbers.specs.Answers.{stepped}
 use Rattle.writer_steps.specs.Acks.{ack_step}
-use Rattle.writer_steps.specs.Two.{taken2}
 use Rattle.trace_readers.specs.declared.state.Trace.{Trace}
 use Rattle.trace_readers.specs.declared.state.Followed.{Followed}
 use Rattle.trace_readers.specs.State.{refused_by, incoherent, own_answer, trace_with_flow, reader_in, with_reader}
@@ -40,28 +41,21 @@ asked_for base l = unless_too_many (of_numbers (number_at base) l) (number_at ba
 
 -- OP=ACK
 
-abbrev pub ack_part : Bool → ℕ → SequenceNumberSet → Trace → List ℕ → List ℕ → Left2 AckTaken2 (List ℕ) (List ℕ)
-ack_part first id set t large small = taken2 (ack_step t.heads t.flow id set (reader_in first t) (part (unsent_at first) 1024 large) (part (gaps_at first) 256 small))
+-- what the step of a server takes for the reader that was looked for (`ack_step`)
+abbrev pub ack_part : Bool → ℕ → SequenceNumberSet → Trace → List ℕ → List ℕ → Left4 AckTold (List ReaderHead) WriterSendBuffer (List ℕ) (List ℕ)
+ack_part first id set t large small = ack_step t.heads t.flow id set (reader_in first t) (part (unsent_at first) 1024 large) (part (gaps_at first) 256 small)
 
--- with the rooms, whole
-abbrev pub ack_in_rooms : Bool → ℕ → SequenceNumberSet → Trace → List ℕ → List ℕ → Left2 AckTaken2 (List ℕ) (List ℕ)
-ack_in_rooms first id set t large small =
+-- and what is then kept, with the rooms, whole
+abbrev pub ack_kept : Bool → Trace → List ℕ → List ℕ → Left4 AckTold (List ReaderHead) WriterSendBuffer (List ℕ) (List ℕ) → Left2 Followed (List ℕ) (List ℕ)
+ack_kept first t large small o =
     record {
-      result = (ack_part first id set t large small).result;
-      first = put (unsent_at first) 1024 (ack_part first id set t large small).first large;
-      second = put (gaps_at first) 256 (ack_part first id set t large small).second small;
+      result = record { answer = o.result.told.answer; trace = with_reader first o.result.proxy (trace_with_flow o.second o.first t) };
+      first = put (unsent_at first) 1024 o.third large;
+      second = put (gaps_at first) 256 o.fourth small;
     }
-
-abbrev pub ack_followed_by : Bool → AckTaken2 → Trace → Followed
-ack_followed_by first k t = record { answer = k.answered.told.answer; trace = with_reader first k.answered.proxy (trace_with_flow k.flow k.heads t) }
 
 abbrev pub ack_followed : Bool → ℕ → SequenceNumberSet → Trace → List ℕ → List ℕ → Left2 Followed (List ℕ) (List ℕ)
-ack_followed first id set t large small =
-    record {
-      result = ack_followed_by first (ack_in_rooms first id set t large small).result t;
-      first = (ack_in_rooms first id set t large small).first;
-      second = (ack_in_rooms first id set t large small).second;
-    }
+ack_followed first id set t large small = ack_kept first t large small (ack_part first id set t large small)
 
 -- what the line leaves, unless a room has another length
 abbrev pub ack_line : ℕ → ℕ → List ℕ → Trace → List ℕ → List ℕ → Left2 Followed (List ℕ) (List ℕ)

@@ -1,16 +1,15 @@
 // The lines of one reader: what it acknowledges and asks for, and what was sent to it.
 ghost use Rattle.std.specs.Prelude.{◌≡◌, length};
 ghost use Rattle.numbers.specs.Promise.{Gives2};
-ghost use Rattle.trace_readers.specs.Requests.{asked_for, ack_in_rooms, ack_followed_by, ack_line};
+ghost use Rattle.trace_readers.specs.Requests.{asked_for, ack_followed, ack_line};
 
 use crate::state::{Followed, Trace};
 use crate::{gaps_at, is_first, unsent_at};
 use number_sets::SequenceNumberSet;
 use numbers::SequenceNumber;
-use reader_list::arrays::lookup_in_2;
+use reader_list::calls::matched_reader_lookup;
 use rtps_reader_proxy::ReaderProxy;
-use writer_steps::AckTaken2;
-use writer_steps::two::take_ack_nack_in_2;
+use writer_steps::acks::take_ack_nack;
 
 // The set of a line; one that spans more than 256 numbers is one of 257 bits, which is refused with 3 in its turn.
 fn asked(base: u64, numbers: &[u64]) -> SequenceNumberSet
@@ -32,46 +31,35 @@ fn asked(base: u64, numbers: &[u64]) -> SequenceNumberSet
 impl Trace {
     // An ACKNACK taken by the record of one reader.
     fn ack_taken(
-        self,
+        mut self,
         first: bool,
         id: u64,
         set: SequenceNumberSet,
         large: &mut [u64],
         small: &mut [u64],
-    ) -> AckTaken2
+    ) -> Followed
         requires { (length large.old ≡ 4352) × (length small.old ≡ 544) }
-        ensures { Gives2 result large.new small.new (ack_in_rooms first id set self large.old small.old) }
+        ensures { Gives2 result large.new small.new (ack_followed first id set self large.old small.old) }
     {
         let a = unsent_at(first);
         let b = a + ReaderProxy::MOST_UNSENT;
         let d = gaps_at(first);
         let e = d + ReaderProxy::GAPS;
-        let heads = self.heads;
-        let flow = self.flow;
         let proxy = self.reader(first);
-        take_ack_nack_in_2(
-            heads,
-            flow,
+        let taken = take_ack_nack(
+            &mut self.heads,
+            &mut self.flow,
             proxy,
             &mut large[a..b],
             &mut small[d..e],
             id,
             set,
-        )
-    }
-
-    // What it leaves.
-    fn acked(self, first: bool, taken: AckTaken2) -> Followed
-        ensures { result ≡ ack_followed_by first taken self }
-    {
-        let step = taken.answered;
-        let told = step.told;
-        let answer = told.answer;
-        let after = taken.heads;
-        let trace = self
-            .with_flow(taken.flow, after)
-            .with_reader(first, step.proxy);
-        Followed { answer, trace }
+        );
+        self.started = true;
+        Followed {
+            answer: taken.told.answer,
+            trace: self.with_reader(first, taken.proxy),
+        }
     }
 
     // op=ack.
@@ -92,9 +80,7 @@ impl Trace {
             return self.incoherent();
         }
         let set = asked(base, numbers);
-        let heads = self.heads;
-        let first = is_first(lookup_in_2(heads, id));
-        let taken = self.ack_taken(first, id, set, large, small);
-        self.acked(first, taken)
+        let first = is_first(matched_reader_lookup(&self.heads, id));
+        self.ack_taken(first, id, set, large, small)
     }
 }

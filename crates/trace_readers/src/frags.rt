@@ -9,7 +9,7 @@ use number_sets::FragmentNumberSet;
 use numbers::arith::above;
 use numbers::{FragmentNumber, SequenceNumber};
 use reader_list::Found;
-use reader_list::arrays::lookup_in_2;
+use reader_list::calls::matched_reader_lookup;
 use rtps_reader_proxy::ReaderProxy;
 use writer_steps::frags::frags_settled;
 
@@ -83,8 +83,7 @@ impl Trace {
         }
         let n = SequenceNumber::from_rank(seq);
         let set = pieces(numbers);
-        let heads = self.heads;
-        let found = lookup_in_2(heads, id);
+        let found = matched_reader_lookup(&self.heads, id);
         let first = is_first(found);
         let a = samples_at(first);
         let b = a + ReaderProxy::FRAG_SAMPLES;

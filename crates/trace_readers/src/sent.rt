@@ -7,7 +7,7 @@ use crate::state::{Followed, Trace, coherence};
 use crate::{is_first, unsent_at};
 use numbers::answers::earlier;
 use numbers::{Answer, SequenceNumber};
-use reader_list::arrays::lookup_in_2;
+use reader_list::calls::matched_reader_lookup;
 use rtps_reader_proxy::ReaderProxy;
 
 impl Trace {
@@ -41,8 +41,7 @@ impl Trace {
             return self.incoherent();
         }
         let n = SequenceNumber::from_rank(seq);
-        let heads = self.heads;
-        let found = lookup_in_2(heads, id);
+        let found = matched_reader_lookup(&self.heads, id);
         let looked = found.answer;
         let first = is_first(found);
         let a = unsent_at(first);

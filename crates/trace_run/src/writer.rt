@@ -6,7 +6,7 @@ use numbers::SequenceNumber;
 use reader_list::Match;
 use trace_readers::{Followed, Trace};
 use writer_send_buffer::{Kind, Limits, WriterSendBuffer};
-use writer_steps::two::match_reader_in_2;
+use writer_steps::readers::match_reader;
 
 // op=new: a reliable volatile writer with 16-byte slots.
 pub fn new_step(trace: Trace, window: u64, backlog: u64, retain: u64, slots: u64) -> Followed
@@ -46,14 +46,11 @@ pub fn match_step(trace: Trace, id: u64) -> Followed
         reliable: true,
         cap: 1024,
     };
-    let heads = trace.heads;
-    let listed = match_reader_in_2(heads, trace.flow, m);
-    let told = listed.told;
-    let answer = told.answer;
-    let heads_after = listed.heads;
-    let after = trace.with_flow(listed.flow, heads_after);
+    let mut after = trace;
+    let told = match_reader(&mut after.heads, &mut after.flow, m);
+    after.started = true;
     Followed {
-        answer,
+        answer: told.answer,
         trace: after,
     }
 }

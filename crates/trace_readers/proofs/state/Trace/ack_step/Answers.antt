@@ -13,6 +13,6 @@ returns-then-small-ne-SMALL c =
 pub returns : goal.returns
 returns c =
     let a = c.args in
-    let taken = c.ack_taken-taken in
-    ack-line a.id a.base a.numbers.now a.self a.large.now a.small.now c.if-large-ne-LARGE.false c.if-small-ne-SMALL.false _ c.asked-set.ensures _ c.lookup_in_2.ensures
-    c.is_first-first.result c.is_first-first.ensures taken.result taken.new.large taken.new.small taken.ensures c.acked.result c.acked.ensures
+    let taken = c.ack_taken in
+    ack-line a.id a.base a.numbers.now a.self a.large.now a.small.now c.if-large-ne-LARGE.false c.if-small-ne-SMALL.false _ c.asked-set.ensures _ c.matched_reader_lookup.ensures
+    c.is_first-first.result c.is_first-first.ensures taken.result taken.new.large taken.new.small taken.ensures

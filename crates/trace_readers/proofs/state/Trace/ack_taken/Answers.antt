@@ -5,6 +5,6 @@ use Rattle.trace_readers.proofs.state.Trace.ack_taken.Goals as goal
 pub returns : goal.returns
 returns c =
     let a = c.args in
-    let step = c.take_ack_nack_in_2 in
-    ack-part a.first a.id a.set a.self a.large.now a.small.now c.unsent_at-a.result c.gaps_at-d.result c.reader-proxy.result
-    step.result step.new.unsent step.new.gaps c.unsent_at-a.ensures.0 c.gaps_at-d.ensures.0 c.reader-proxy.ensures step.ensures
+    let step = c.take_ack_nack-taken in
+    ack-part a.first a.id a.set a.self a.large.now a.small.now c.unsent_at-a.result c.gaps_at-d.result c.unsent_at-a.ensures.0 c.gaps_at-d.ensures.0
+    c.reader-proxy.result c.reader-proxy.ensures step.result _ _ step.new.unsent step.new.gaps step.ensures c.with_reader.result c.with_reader.ensures

@@ -6,5 +6,5 @@ pub returns : goal.returns
 returns c =
     let a = c.args in
     let sent = c.sent_to in
-    sent-line a.id a.seq a.self a.large.now c.if-large-ne-LARGE.false _ c.from_rank-n.ensures c.lookup_in_2-found.result c.lookup_in_2-found.ensures
+    sent-line a.id a.seq a.self a.large.now c.if-large-ne-LARGE.false _ c.from_rank-n.ensures c.matched_reader_lookup-found.result c.matched_reader_lookup-found.ensures
     c.is_first-first.result c.is_first-first.ensures c.unsent_at-a.result c.unsent_at-a.ensures.0 sent.result sent.new.unsent sent.ensures
