@@ -1,9 +1,10 @@
 -- The calls on a rising set: refused, or the set's change done in its room. Assumes nothing.
 use Rattle.std.proofs.Common.{◌≡◌, ℕ, suc, ◌+◌, ◌≤◌, Bool, true, false, cond, ◌&&◌, ◌||◌, eqb, leb, List, [], ◌∷◌, length, take, sym, refl, ap, ◌∙◌, arith, length-take, eqb-true}
 use Rattle.numbers.specs.Promise.{Gives1}
-use Rattle.numbers.proofs.Next.{none_is}
+use Rattle.std.specs.Prelude.{Option, is_none, unwrap_or}
+use Rattle.std.specs.List.{slice_get}
 use Rattle.sets.specs.Sets.{has, From, insert, only, between, empty, first_or}
-use Rattle.sets.proofs.Has.{has-insert, From-insert, From-low, From_weak, From-only}
+use Rattle.sets.proofs.Has.{has-insert, From-insert, From-low}
 use Rattle.sets.proofs.Ext.{ext}
 use Rattle.rising.specs.Runs.{room_of, in_room, from_on, before}
 use Rattle.rising.proofs.Meaning.{RunIs, run_is, in_room_lem, from_only, before-only, between_is, room_take, room-length, rising_only, room_ok}
@@ -36,13 +37,14 @@ between-room p c a r b e k n v u g h =
     let y = in_room_lem p k v (before (e + 1)) (between b e (take c a)) ok bt (omega arith) n u h in
     (y.0, y.1 ∙ ap (λ (x : ℕ). room_of x (between b e (take c a))) lv)
 
--- the first number of a coherent run from n on, and whether there is none
-pub first-is : (p c : ℕ) (a : List ℕ) (n r : ℕ) → RunIs p c a → r ≡ first_or 0 (from_on n (take c a)) → (eqb r 0 ≡ empty (only (leb n) (take c a))) × (r ≡ first_or 0 (only (leb n) (take c a)))
-first-is p c a n r w e =
-    let f = w.rises.from in
-    let o = from_only n (suc p) (take c a) f in
-    let q : r ≡ first_or 0 (only (leb n) (take c a)) = e ∙ ap (first_or 0) o in
-    (ap (λ (x : ℕ). eqb x 0) q ∙ none_is (only (leb n) (take c a)) (From_weak 1 (suc p) (only (leb n) (take c a)) (omega arith) (From-only (suc p) (leb n) (take c a) f)), q)
+-- the first number of a coherent run from n on, if there is one, is the first of those from n on
+pub first-is : (p c : ℕ) (a : List ℕ) (n : ℕ) (r : Option ℕ) → RunIs p c a → r ≡ slice_get (from_on n (take c a)) 0 → r ≡ slice_get (only (leb n) (take c a)) 0
+first-is p c a n r w e = e ∙ ap (λ (l : List ℕ). slice_get l 0) (from_only n (suc p) (take c a) w.rises.from)
+
+-- so it is missing where there are none, and then 0 stands for it
+pub first-or : (l : List ℕ) (r : Option ℕ) → r ≡ slice_get l 0 → (is_none r ≡ empty l) × (unwrap_or r 0 ≡ first_or 0 l)
+first-or [] r e = rw e (refl, refl)
+first-or (x ∷ xs) r e = rw e (refl, refl)
 
 -- a member that joins changes nothing
 pub insert-same : (n b : ℕ) (l : List ℕ) → From b l → has l n ≡ true → insert n l ≡ l

@@ -6,3 +6,4 @@ pub mod Inserts
 pub mod Meaning
 pub mod Changes
 pub mod Unique
+pub mod Ends

@@ -2,7 +2,7 @@
 use Rattle.std.proofs.Common.{◌≡◌, ℕ, zero, suc, ◌+◌, ◌-◌, ◌*◌, ◌%◌, ◌^◌, ◌<◌, ◌≤◌, min, Bool, true, false, ◌&&◌, ◌||◌, eqb, ltb, leb, ◌⊎◌, List, [], ◌∷◌, length, get_or, take, drop, sym, refl, ap, ◌∙◌, ap₂, inl, inr, arith, length-drop, take_all, ltb-false, ltb-true, le-ltb, lt-ltb, eq-eqb, ne_eqb, eqb-true, le-leb, leb-false, leb-true}
 use lib.Bits.{bit_or, bit_and, or_add_and, or_lt, and_block, and_le_l, and_le_r}
 use borrow.Author.Tests.{eqb-false, lt-leb}
-use Rattle.sets.specs.Sets.{has, first_or}
+use Rattle.sets.specs.Sets.{has}
 use Rattle.sets.proofs.Bools.{decide, or_assoc, and_assoc, and_yes, and_no, and_left}
 use Rattle.numbers.specs.Capacities.{top_number}
 use Rattle.rising.specs.Runs.{rises_above, zeros, run_coherent, place_of, holds_at}
@@ -175,10 +175,3 @@ take_min c s = go (leb c (length s)) refl
 
 pub take_within : (c : ℕ) (a : List ℕ) (e : ℕ) → e ≡ min c (length a) → take e a ≡ take c a
 take_within c a e h = ap (λ (k : ℕ). take k a) h ∙ take_min c a
-
--- the first number from the place i on
-pub first_at : (l : List ℕ) (i : ℕ) → i < length l → get_or l i 0 ≡ first_or 0 (drop i l)
-first_at l i h = sym (ap (first_or 0) (here l i h))
-
-pub first-none : (l : List ℕ) (i : ℕ) → length l ≤ i → 0 ≡ first_or 0 (drop i l)
-first-none l i h = sym (ap (first_or 0) (done l i h))

@@ -1,6 +1,6 @@
 -- Runs of numbers in lent room, as lists; each definition is for any list. What they are for a rising one is said in the words of `sets` and proved
 -- (proofs/Meaning.antt). Assumes nothing.
-use Rattle.std.specs.Prelude.{ℕ, zero, suc, ◌+◌, ◌-◌, max, Bool, true, false, cond, ◌&&◌, List, [], ◌∷◌, ◌++◌, length, take, drop, replicate, ◌==◌, nat_le, nat_lt}
+use Rattle.std.specs.Prelude.{ℕ, zero, suc, ◌+◌, ◌-◌, max, Bool, true, false, cond, ◌&&◌, List, [], ◌∷◌, ◌++◌, length, take, drop, replicate, ◌==◌, nat_le, nat_lt, get_or, set}
 use Rattle.sets.specs.Sets.{insert, smallest, largest}
 use Rattle.numbers.specs.Capacities.{top_number}
 use Rattle.numbers.specs.Promise.{Left1}
@@ -72,6 +72,13 @@ in_room f count a =
     cond (nat_le count (length a))
     (record { result = length (f (take count a)); first = over a count (f (take count a)) })
     (record { result = count; first = a })
+
+-- n joins: after the numbers of a run, where there is room and the last is below it; else as one of the newest
+abbrev pub run_with : ℕ → ℕ → List ℕ → Left1 ℕ (List ℕ)
+run_with n count a =
+    cond (nat_lt count (length a) && nat_lt (get_or a (count - 1) 0) n)
+    (record { result = count + 1; first = set a count n })
+    (in_room (newest (length a) n) count a)
 
 -- l in a room from its start, as far as it fits, and what stood there after it
 abbrev pub filled : List ℕ → List ℕ → List ℕ

@@ -1,8 +1,9 @@
 // A run of `count` numbers at the start of a slice of any length, the rest of which is room. A count past the room changes nothing.
-ghost use Rattle.std.specs.Prelude.{◌≡◌, ◌+◌, ◌<◌, ◌≤◌, length, take};
-ghost use Rattle.sets.specs.Sets.{has, smallest, first_or};
+ghost use Rattle.std.specs.Prelude.{◌≡◌, ◌+◌, ◌-◌, ◌<◌, ◌≤◌, length, take, get_or};
+ghost use Rattle.std.specs.List.{slice_get};
+ghost use Rattle.sets.specs.Sets.{has, smallest};
 ghost use Rattle.numbers.specs.Promise.{Gives1};
-ghost use Rattle.rising.specs.Runs.{place_of, holds_at, in_room, cut_out, opened_within, put_in, over, removed, from_on, before, insert_within, newest};
+ghost use Rattle.rising.specs.Runs.{place_of, holds_at, in_room, cut_out, opened_within, put_in, over, removed, from_on, before, insert_within, newest, run_with};
 
 use crate::run;
 use numbers::arith::smaller;
@@ -31,13 +32,12 @@ fn held_at(s: &[u64], count: usize, i: usize, n: u64) -> bool
     run::holds_at(&s[..end], i, n)
 }
 
-// The first number of the run from n on; 0 where there is none.
-pub fn first_from(s: &[u64], count: usize, n: u64) -> u64
-    ensures { result ≡ first_or 0 (from_on n (take count s.now)) }
+// The first number of the run from n on, if there is one.
+pub fn first_from(s: &[u64], count: usize, n: u64) -> Option<u64>
+    ensures { result ≡ slice_get (from_on n (take count s.now)) 0 }
 {
-    let end = smaller(count, s.len());
-    let i = run::place(&s[..end], n);
-    if i < end { s[i] } else { 0 }
+    let held = &s[..count.min(s.len())];
+    held.get(run::place(held, n)).copied()
 }
 
 // The run without the k numbers from i on.
@@ -137,4 +137,22 @@ pub fn insert_newest(s: &mut [u64], count: usize, n: u64) -> usize
     run::drop_front(&mut s[0..i], 1);
     s[i - 1] = n;
     count
+}
+
+// The last of the `count` numbers. Where there is none, 0 stands there: unused room is zero.
+pub fn last_of(s: &[u64], count: usize) -> u64
+    ensures { result ≡ get_or s.now (count - 1) 0 }
+{
+    s.get(count.saturating_sub(1)).copied().unwrap_or(0)
+}
+
+// n joins the run; where there is no room the smallest goes. A new number is above all that are held, and stands after them: nothing is searched.
+pub fn join_newest(s: &mut [u64], count: usize, n: u64) -> usize
+    ensures { Gives1 result s.new (run_with n count s.old) }
+{
+    if (count < s.len()) & (last_of(s, count) < n) {
+        s[count] = n;
+        return count + 1;
+    }
+    insert_newest(s, count, n)
 }
