@@ -52,26 +52,6 @@ left-done a b z = (earlier-done a b z).0
 pub right_done : (a b : Answer) → (earlier a b).number ≡ 0 → b.number ≡ 0
 right_done a b z = (earlier-done a b z).1
 
--- which of two is the answer
-module _ (a b : Answer) where
-  abbrev earlier_by : Bool → Bool → Bool → Answer
-  earlier_by t u v = cond t a (cond u b (cond v a b))
-
-  by : {t u v : Bool} → is_done b ≡ t → is_done a ≡ u → is_before numbers a.number b.number ≡ v → earlier_by t u v ≡ earlier a b
-  by e d q = sym (λ i. earlier_by (e i) (d i) (q i))
-
-  pub first-is : b.number ≡ 0 → a ≡ earlier a b
-  first-is y = by (eq-eqb b.number 0 y) refl refl
-
-  pub second_is : (b.number ≡ 0 → ⊥) → a.number ≡ 0 → b ≡ earlier a b
-  second_is y x = by (ne_eqb b.number 0 y) (eq-eqb a.number 0 x) refl
-
-  pub before-is : (b.number ≡ 0 → ⊥) → (a.number ≡ 0 → ⊥) → {t : Bool} → t ≡ is_before numbers a.number b.number → t ≡ true → a ≡ earlier a b
-  before-is y x q e = by (ne_eqb b.number 0 y) (ne_eqb a.number 0 x) (sym q ∙ e)
-
-  pub after_is : (b.number ≡ 0 → ⊥) → (a.number ≡ 0 → ⊥) → {t : Bool} → t ≡ is_before numbers a.number b.number → t ≡ false → b ≡ earlier a b
-  after_is y x q e = by (ne_eqb b.number 0 y) (ne_eqb a.number 0 x) (sym q ∙ e)
-
 -- where two in turn are done, each is
 pub turn-done : (a b : Answer) → (in_turn a b).number ≡ 0 → (a.number ≡ 0) × (b.number ≡ 0)
 turn-done a b z = go (is_done a) refl z

@@ -1,5 +1,4 @@
 -- Laws that belong to no one function.
-pub mod Signed
 pub mod Refused
 pub mod Answered
 pub mod Ranks

@@ -8,7 +8,7 @@ use borrow.Author.Tests.{eq-eqb, ne_eqb, eqb-true, eqb-false}
 use Rattle.sets.specs.Sets.{has}
 use Rattle.numbers.specs.declared.answer.Answer.{Answer}
 use Rattle.numbers.specs.Refusals.{Rows, numbers, holds_in, first_row, answer_at, answer_of, done, is_done, unless}
-use Rattle.numbers.specs.Promise.{Left1, Left2, Left3, Gives1, Gives2, Gives3}
+use Rattle.numbers.specs.Promise.{Left1, Left2, Gives1, Gives2}
 
 -- WHAT IS KNOWN OF A CALL THAT IS DONE: no row holds, of whatever number
 abbrev pub Clear : Rows → Type 0
@@ -58,7 +58,3 @@ module _ {A B : Type 0} (r : A) (u : B) (o p : Left1 A B) (e : o ≡ p) where
 module _ {A B C : Type 0} (r : A) (u : B) (v : C) (o p : Left2 A B C) (e : o ≡ p) where
   pub gives2 : r ≡ o.result → u ≡ o.first → v ≡ o.second → Gives2 r u v p
   gives2 x y z = subst (Gives2 r u v) e (record { result = x; first = y; second = z })
-
-module _ {A B C D : Type 0} (r : A) (u : B) (v : C) (w : D) (o p : Left3 A B C D) (e : o ≡ p) where
-  pub gives3 : r ≡ o.result → u ≡ o.first → v ≡ o.second → w ≡ o.third → Gives3 r u v w p
-  gives3 x y z t = subst (Gives3 r u v w) e (record { result = x; first = y; second = z; third = t })

@@ -4,19 +4,19 @@ use Rattle.numbers.specs.declared.refusal.Refusal.{Refusal}
 use Rattle.numbers.specs.declared.refusal.Refusal.TheVariants.{Incoherent, Range, Bits, Payload, UsedUp, WouldBlock, StoreFull, ReadersFull, GapsFull, FragsFull, Reader, Ahead, Limit, Nothing, Line}
 
 -- "Numbers returned"
-abbrev pub number_of : Refusal → ℕ
-number_of Incoherent = 1
-number_of Range = 2
-number_of Bits = 3
-number_of Payload = 4
-number_of UsedUp = 5
-number_of WouldBlock = 6
-number_of StoreFull = 7
-number_of ReadersFull = 8
-number_of GapsFull = 9
-number_of FragsFull = 10
-number_of Reader = 11
-number_of Ahead = 12
-number_of Limit = 13
-number_of Nothing = 14
-number_of Line = 15
+abbrev pub refusal_number : Refusal → ℕ
+refusal_number Incoherent = 1
+refusal_number Range = 2
+refusal_number Bits = 3
+refusal_number Payload = 4
+refusal_number UsedUp = 5
+refusal_number WouldBlock = 6
+refusal_number StoreFull = 7
+refusal_number ReadersFull = 8
+refusal_number GapsFull = 9
+refusal_number FragsFull = 10
+refusal_number Reader = 11
+refusal_number Ahead = 12
+refusal_number Limit = 13
+refusal_number Nothing = 14
+refusal_number Line = 15

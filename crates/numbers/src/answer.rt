@@ -1,19 +1,19 @@
 // The numbers returned, and the one place that puts them in order.
 ghost use Rattle.std.specs.Prelude.{◌≡◌, refl, cond, not, [], ◌∷◌, eqb};
-ghost use Rattle.numbers.specs.Refusal.{number_of};
+ghost use Rattle.numbers.specs.Refusal.{refusal_number};
 ghost use Rattle.numbers.specs.Refusals.{row, answer_at, answer_of, done};
 
 use crate::refusal::{Numbered, Refusal};
 
-// A call's answer: 0, or the number of the first row that holds; and the place that it is about, where a number has one. None has today.
+// A call's answer, as C sees it: 0, or the number of the first row that holds; and the place that it is about, where a number has one. None has today.
 #[repr(C)]
-#[derive(Clone, Copy, Debug, PartialEq, Eq)]
+#[derive(Clone, Copy, Debug, Default, PartialEq, Eq)]
 pub struct Answer {
     pub number: u32,
     pub place: u32,
 }
 
-// A yes or no.
+// A yes or no, as C sees it.
 #[repr(C)]
 #[derive(Clone, Copy, Debug, PartialEq, Eq)]
 pub struct Told {
@@ -21,16 +21,24 @@ pub struct Told {
     pub yes: bool,
 }
 
-// The number of a row that holds, or what the rows after it give.
-fn row(number: u32, holds: bool, rest: u32) -> u32
-    ensures { result ≡ cond holds number rest }
-{
-    if holds { number } else { rest }
-}
-
 impl Answer {
     // The order in which they apply.
-    pub const ORDER: [u32; 14] = [13, 1, 3, 2, 11, 12, 4, 5, 6, 7, 8, 9, 10, 14];
+    pub const ORDER: [Refusal; 14] = [
+        Refusal::Limit,
+        Refusal::Incoherent,
+        Refusal::Bits,
+        Refusal::Range,
+        Refusal::Reader,
+        Refusal::Ahead,
+        Refusal::Payload,
+        Refusal::UsedUp,
+        Refusal::WouldBlock,
+        Refusal::StoreFull,
+        Refusal::ReadersFull,
+        Refusal::GapsFull,
+        Refusal::FragsFull,
+        Refusal::Nothing,
+    ];
 
     // The one place where an answer is made.
     fn at(number: u32) -> Answer
@@ -41,7 +49,7 @@ impl Answer {
 
     // The answer of a call that is refused so, whatever else holds.
     pub fn refused(by: Refusal) -> Answer
-        ensures { result ≡ answer_at (number_of by) }
+        ensures { result ≡ answer_at (refusal_number by) }
     {
         Answer::at(by.number())
     }
@@ -58,8 +66,8 @@ impl Answer {
     pub fn unless<N: Numbered>(self, holds: bool, number: N) -> Answer
         ensures { result ≡ answer_at (cond holds (N.number number) self.number) }
     {
-        let after = self.number;
-        Answer::at(row(number.number(), holds, after))
+        let refused = number.number();
+        Answer::at(if holds { refused } else { self.number })
     }
 
     // The answer of a call that only what isn't coherent refuses.

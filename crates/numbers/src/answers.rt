@@ -1,23 +1,24 @@
 // The answer of a step of several calls: the first of theirs, in the order of the table.
-ghost use Rattle.std.specs.Prelude.{◌≡◌};
+ghost use Rattle.std.specs.Prelude.{◌≡◌, map};
 ghost use Rattle.numbers.specs.Answers.{is_before, earlier, in_turn};
+ghost use Rattle.numbers.specs.Refusal.{refusal_number};
 
 use crate::answer::Answer;
+use crate::refusal::{Numbered, Refusal};
 
 // Whether x comes before y in the order of a table.
-fn is_before(order: &[u32], x: u32, y: u32) -> bool
-    ensures { result ≡ is_before order.now x y }
+#[tactic(auto, unfolding(crate::specs::Answers::is_before))]
+fn is_before(order: &[Refusal], x: u32, y: u32) -> bool
+    ensures { result ≡ is_before (map refusal_number order.now) x y }
 {
-    let mut i = 0;
-    while i < order.len() {
-        let n = order[i];
+    for by in order {
+        let n = by.number();
         if x == n {
             return true;
         }
         if y == n {
             return false;
         }
-        i += 1;
     }
     true
 }
@@ -25,25 +26,20 @@ fn is_before(order: &[u32], x: u32, y: u32) -> bool
 pub fn earlier(a: Answer, b: Answer) -> Answer
     ensures { result ≡ earlier a b }
 {
-    if b.number == 0 {
-        return a;
+    if b.is_done() {
+        a
+    } else if a.is_done() {
+        b
+    } else if is_before(&Answer::ORDER, a.number, b.number) {
+        a
+    } else {
+        b
     }
-    if a.number == 0 {
-        return b;
-    }
-    let order = Answer::ORDER;
-    if is_before(&order, a.number, b.number) {
-        return a;
-    }
-    b
 }
 
 // Of two calls of which the second isn't made where the first is refused.
 pub fn in_turn(a: Answer, b: Answer) -> Answer
     ensures { result ≡ in_turn a b }
 {
-    if a.number != 0 {
-        return a;
-    }
-    b
+    if a.is_done() { b } else { a }
 }

@@ -1,4 +1,6 @@
 // A place in a rising set, by value: the next number is the smallest at or after it, and the cursor that comes back stands past that number.
+// Sample numbers and fragments have types of their own, so that neither is taken for the other. They are two structs each and not one with a type
+// parameter: the C interface, where what is exported may have none.
 ghost use Rattle.std.specs.Prelude.{◌≡◌};
 ghost use Rattle.numbers.specs.Cursor.{past, cursor_past, fragment_cursor_past, no_next_number, this_number, no_next_fragment, this_fragment};
 ghost use Rattle.numbers.specs.Answers.{answered};
@@ -8,20 +10,20 @@ use crate::fragment_number::FragmentNumber;
 use crate::sequence_number::SequenceNumber;
 
 #[repr(C)]
-#[derive(Clone, Copy)]
+#[derive(Clone, Copy, Debug, Default, PartialEq, Eq)]
 pub struct Cursor {
     pub from: u64,
 }
 
-// The same among fragments: a type of its own, so that neither is taken for the other.
+// The same among fragments.
 #[repr(C)]
-#[derive(Clone, Copy)]
+#[derive(Clone, Copy, Debug, Default, PartialEq, Eq)]
 pub struct FragmentCursor {
     pub from: u64,
 }
 
 #[repr(C)]
-#[derive(Clone, Copy)]
+#[derive(Clone, Copy, Debug, Default, PartialEq, Eq)]
 pub struct NextNumber {
     pub answer: Answer,
     pub number: SequenceNumber,
@@ -29,7 +31,7 @@ pub struct NextNumber {
 }
 
 #[repr(C)]
-#[derive(Clone, Copy)]
+#[derive(Clone, Copy, Debug, Default, PartialEq, Eq)]
 pub struct NextFragment {
     pub answer: Answer,
     pub number: FragmentNumber,
@@ -40,15 +42,14 @@ pub struct NextFragment {
 fn past(n: u64) -> u64
     ensures { result ≡ past n }
 {
-    if n < 18446744073709551615 { n + 1 } else { n }
+    n.saturating_add(1)
 }
 
 impl Cursor {
     pub fn past(n: u64) -> Cursor
         ensures { result ≡ cursor_past n }
     {
-        let from = past(n);
-        Cursor { from }
+        Cursor { from: past(n) }
     }
 }
 
@@ -56,8 +57,7 @@ impl FragmentCursor {
     pub fn past(n: u64) -> FragmentCursor
         ensures { result ≡ fragment_cursor_past n }
     {
-        let from = past(n);
-        FragmentCursor { from }
+        FragmentCursor { from: past(n) }
     }
 }
 
@@ -66,20 +66,16 @@ impl NextNumber {
     pub fn of(answer: Answer, n: u64) -> NextNumber
         ensures { result ≡ answered answer no_next_number (this_number n) }
     {
-        if answer.number != 0 {
+        if !answer.is_done() {
             return NextNumber {
                 answer,
-                number: SequenceNumber(0),
-                cursor: Cursor { from: 0 },
+                ..NextNumber::default()
             };
         }
-        let answer = Answer::done();
-        let number = SequenceNumber::from_rank(n);
-        let cursor = Cursor::past(n);
         NextNumber {
-            answer,
-            number,
-            cursor,
+            answer: Answer::done(),
+            number: SequenceNumber::from_rank(n),
+            cursor: Cursor::past(n),
         }
     }
 }
@@ -88,20 +84,16 @@ impl NextFragment {
     pub fn of(answer: Answer, n: u64) -> NextFragment
         ensures { result ≡ answered answer no_next_fragment (this_fragment n) }
     {
-        if answer.number != 0 {
+        if !answer.is_done() {
             return NextFragment {
                 answer,
-                number: FragmentNumber(0),
-                cursor: FragmentCursor { from: 0 },
+                ..NextFragment::default()
             };
         }
-        let answer = Answer::done();
-        let number = FragmentNumber::from_rank(n);
-        let cursor = FragmentCursor::past(n);
         NextFragment {
-            answer,
-            number,
-            cursor,
+            answer: Answer::done(),
+            number: FragmentNumber::from_rank(n),
+            cursor: FragmentCursor::past(n),
         }
     }
 }

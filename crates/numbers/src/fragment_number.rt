@@ -1,9 +1,9 @@
 // The number of a sample's fragment: unsigned, 32 bits, from 1 on.
-ghost use Rattle.std.specs.Prelude.{◌≡◌, ltb};
+ghost use Rattle.std.specs.Prelude.{◌≡◌};
 ghost use Rattle.numbers.specs.Number.{is_fragment, fragment_at};
 
 #[repr(C)]
-#[derive(Clone, Copy)]
+#[derive(Clone, Copy, Debug, Default, PartialEq, Eq, PartialOrd, Ord, Hash)]
 pub struct FragmentNumber(pub u32);
 
 impl FragmentNumber {
@@ -21,34 +21,20 @@ impl FragmentNumber {
     pub fn rank(self) -> u64
         ensures { result ≡ self.0 }
     {
-        let n = self.0;
-        n as u64
+        u64::from(self.0)
     }
 
     // The fragment number of a natural number; of one that is too large, 0.
     pub fn from_rank(n: u64) -> FragmentNumber
         ensures { result ≡ fragment_at n }
     {
-        if n < 4294967296 {
-            FragmentNumber(n as u32)
-        } else {
-            FragmentNumber(0)
-        }
+        FragmentNumber(u32::try_from(n).unwrap_or(0))
     }
 
     // Whether it can be asked for: 1 through 4,096.
     pub fn is_fragment(self) -> bool
         ensures { result ≡ is_fragment self }
     {
-        let n = self.0;
-        (1 <= n) & (n <= FragmentNumber::LAST)
-    }
-
-    pub fn is_below(self, other: FragmentNumber) -> bool
-        ensures { result ≡ ltb self.0 other.0 }
-    {
-        let a = self.0;
-        let b = other.0;
-        a < b
+        (1..=FragmentNumber::LAST).contains(&self.0)
     }
 }

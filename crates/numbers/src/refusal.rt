@@ -1,6 +1,6 @@
 // Why a call is refused: the numbers of document 01 but 0, by name.
 ghost use Rattle.std.specs.Prelude.{◌≡◌, ℕ};
-ghost use Rattle.numbers.specs.Refusal.{number_of};
+ghost use Rattle.numbers.specs.Refusal.{refusal_number};
 
 #[derive(Clone, Copy, Debug, PartialEq, Eq)]
 pub enum Refusal {
@@ -67,7 +67,7 @@ impl Numbered for u32 {
 }
 
 impl Numbered for Refusal {
-    ghost number = { number_of };
+    ghost number = { refusal_number };
 
     fn number(self) -> u32 {
         self as u32
