@@ -1,28 +1,26 @@
 -- The room: what stands from one place to another gets as many cells as the members of a set need, and these are laid there. Assumes nothing.
 use Prim.Native.Nat.{ℕ, ◌+◌, ◌-◌, ◌≤◌, ◌<◌, min, max}
-use mathlib.Core.Path.{◌≡◌, refl, sym, ap, subst, ◌∙◌}
-use mathlib.Core.Bool.{Bool, true, false, not, cond, ◌&&◌, ◌||◌}
+use mathlib.Core.Path.{◌≡◌, refl, sym, ap, ◌∙◌}
+use mathlib.Core.Bool.{Bool, true, false}
 use mathlib.Core.List.{List, [], ◌++◌, append-nil, append_assoc}
 use native.Mathlib.Omega.{arith}
-use lib.Dec.{leb, ltb, eqb}
+use lib.Dec.{leb, eqb}
 use lib.ListN.{length, take, drop, replicate, length-take, length-drop, length-append, length-replicate}
 use lib.Seq.{take_all, length-take-le, take-take, drop-drop, drop_at, take-append-le, take-append-add, drop-append-le}
-use borrow.Author.Tests.{leb-true, leb-false, le-leb, le-ltb, ltb-false, eq-eqb, ne_eqb}
-use Rattle.sets.specs.Sets.{smallest, empty}
-use Rattle.sets.proofs.Bools.{neither}
+use borrow.Author.Tests.{leb-true, leb-false, le-leb, le-ltb, eq-eqb, ne_eqb}
+use Rattle.sets.specs.Sets.{smallest}
 use Rattle.sets.proofs.Loops.{done}
 use Rattle.numbers.specs.Number.{rank_of, negative}
 use Rattle.numbers.specs.Promise.{Left1, Gives1}
 use Rattle.number_sets.specs.declared.sequence_number_set.SequenceNumberSet.{SequenceNumberSet}
 use Rattle.number_sets.specs.declared.sequence_number_set.Listed.{Listed}
-use Rattle.number_sets.specs.declared.sequence_number_set.NextRank.{NextRank}
 use Rattle.number_sets.specs.Bits.{members}
-use Rattle.number_sets.specs.Calls.{sequence_set, cut_set, joined_set, sequence_rows, set_rows, members_listed, all_listed}
+use Rattle.number_sets.specs.Calls.{sequence_set, joined_set, sequence_rows, set_rows, members_listed, all_listed}
 use Rattle.number_sets.proofs.Meaning.{span_window}
 use Rattle.rising.specs.Runs.{over, in_room, place_of, cut_out, opened_within, filled}
 use Rattle.rising.proofs.Rooms.{drop-take, as_well, room-same}
 use Rattle.rising.proofs.Inserts.{place_le}
-use Rattle.joined_runs.specs.Joined.{replaced, grown, end_in, lying, with_members, asked_between, first_asked, laid_in, joined_in, resized, Within, Listable}
+use Rattle.joined_runs.specs.Joined.{replaced, grown, end_in, lying, with_members, laid_in, resized, Within, Listable}
 
 -- RESIZED: by a cut, or by an opening
 module _ (p q count n : ℕ) (a : List ℕ) (w : Within p q count a) where
@@ -223,40 +221,3 @@ module _ (count : ℕ) (a : List ℕ) (set : SequenceNumberSet) (first base p k 
         ∙ ap (λ (i : ℕ). grown i q (members (sequence_set (joined_set set (lying first set (take count a))))) (take count a)) ep
         ∙ ap (λ (i : ℕ). grown (place_of first (take count a)) i (members (sequence_set (joined_set set (lying first set (take count a))))) (take count a)) q_is in
         record { result = g.result ∙ ap length x; first = g.first ∙ ap (λ (i : List ℕ). over a count (smallest (length a) i)) x }
-
--- WHETHER ANYTHING JOINS
-module _ (set : SequenceNumberSet) (lo hi count : ℕ) (a : List ℕ) (next : NextRank) (e : next ≡ first_asked set lo hi) where
-  abbrev left_by : ℕ → SequenceNumberSet → Left1 ℕ (List ℕ)
-  left_by f s = laid_in count a (with_members f s (take count a))
-
-  none_is : next.none ≡ (first_asked set lo hi).none
-  none_is = ap (λ (x : NextRank). x.none) e
-
-  pub joined_none : (ltb (length a) count || next.none) ≡ true → Gives1 count a (joined_in set lo hi count a)
-  joined_none h = go (leb count (length a)) refl
-    where
-      go : (t : Bool) → leb count (length a) ≡ t
-          → Gives1 count a (cond (t && not (first_asked set lo hi).none) (left_by (first_asked set lo hi).rank (cut_set set lo hi)) (record { result = count; first = a }))
-      go false f = record { result = refl; first = refl }
-      go true f =
-          let j : (first_asked set lo hi).none ≡ true = sym none_is ∙ (rw (le-ltb (length a) count (leb-true count (length a) f)) at h) in
-          rw j (record { result = refl; first = refl })
-
-  module _ (h : (ltb (length a) count || next.none) ≡ false) where
-    pub some_fits : count ≤ length a
-    some_fits = ltb-false (length a) count (neither (ltb (length a) count) next.none h).0
-
-    some-joins : (first_asked set lo hi).none ≡ false
-    some-joins = sym none_is ∙ (neither (ltb (length a) count) next.none h).1
-
-    module _ (these : SequenceNumberSet) (ea : these ≡ cut_set set lo hi) where
-      pub some_listable : Listable these
-      some_listable =
-          let x = neither (ltb 256 set.count) (negative set.base || empty (asked_between set lo hi)) some-joins in
-          subst Listable (sym ea)
-          (record { bits = ltb-false 256 set.count x.0; base = (neither (negative set.base) (empty (asked_between set lo hi)) x.1).0 })
-
-      pub joined_done : (r : ℕ) (u : List ℕ) → Gives1 r u (left_by next.rank these) → Gives1 r u (joined_in set lo hi count a)
-      joined_done r u g =
-          rw (le-leb count (length a) some_fits, some-joins)
-          (subst (Gives1 r u) (ap (left_by next.rank) ea ∙ ap (λ (x : NextRank). left_by x.rank (cut_set set lo hi)) e) g)

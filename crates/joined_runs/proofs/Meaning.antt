@@ -1,14 +1,16 @@
 -- What a joined run is, where the run rises: the smallest of the union with the members from lo through hi. Assumes nothing.
 use Prim.Native.Nat.{ℕ, suc, ◌+◌, ◌-◌, ◌≤◌, ◌<◌}
-use mathlib.Core.Path.{◌≡◌, refl, sym, ap, ◌∙◌}
-use mathlib.Core.Bool.{Bool, true, false, not, cond, ◌&&◌, ◌||◌, true≢false}
+use mathlib.Core.Path.{◌≡◌, refl, sym, ap, subst, ◌∙◌}
+use mathlib.Core.Bool.{Bool, true, false, cond, ◌&&◌, ◌||◌}
 use mathlib.Core.List.{List, [], ◌∷◌, ◌++◌}
 use native.Mathlib.Omega.{arith}
 use lib.Dec.{leb, ltb, eqb}
+use Rattle.std.specs.Prelude.{slice_get}
+use Rattle.std.specs.Option.{option_map_or}
 use lib.ListN.{length, take, drop, length-take, length-drop, take-append-drop}
 use lib.Seq.{length-take-le, take_all, drop-drop}
 use borrow.Author.Tests.{leb-true, leb-false, le-leb, lt-leb, ltb-true, le-ltb, eqb-true, eq-eqb}
-use Rattle.sets.specs.Sets.{has, From, union, smallest, empty, first_or}
+use Rattle.sets.specs.Sets.{has, From, union, smallest}
 use Rattle.sets.proofs.Bools.{and_left, and_right}
 use Rattle.sets.proofs.Has.{has-union, has-between, has-only, From-union, From-only, From_raise}
 use Rattle.sets.proofs.Smallest.{has_take_sub, has_drop_sub, From-take, From-drop}
@@ -24,7 +26,7 @@ use Rattle.rising.specs.Runs.{place_of, room_of, over}
 use Rattle.rising.proofs.Rooms.{drop-take, changed}
 use Rattle.rising.proofs.Inserts.{place_mono, place_le}
 use Rattle.rising.proofs.Meaning.{RunIs, in_room_lem, room-is, from_only, before-only}
-use Rattle.joined_runs.specs.Joined.{replaced, grown, end_in, with_members, asked_between, first_asked, joined_in, laid_in}
+use Rattle.joined_runs.specs.Joined.{replaced, grown, end_in, with_members, asked_between, joined_in, laid_in}
 use Rattle.joined_runs.proofs.Same.{within_same}
 
 -- the place of the larger of two numbers, from the place of the smaller on
@@ -182,35 +184,29 @@ module _ (count : ℕ) (room : List ℕ) (run : RunIs 0 count room) (set : Seque
   long = length-take-le count room run.fits
 
   -- nothing is asked for
-  none : (first_asked set lo hi).none ≡ true → all ≡ take count room
-  none e = ap (λ (x : List ℕ). union x (take count room)) (nil (asked_between set lo hi) (rw (le-ltb 256 set.count bits, base) at e))
-    where
-      nil : (x : List ℕ) → empty x ≡ true → x ≡ []
-      nil [] f = refl
-      nil (y ∷ ys) f = absurd (true≢false (sym f))
+  none : asked_between set lo hi ≡ [] → all ≡ take count room
+  none e = ap (λ (x : List ℕ). union x (take count room)) e
 
   -- something is: the first of it is the smallest
-  asked_run : (first_asked set lo hi).none ≡ false → with_members (first_asked set lo hi).rank (cut_set set lo hi) (take count room) ≡ all
-  asked_run e =
-      let f = head (asked_between set lo hi) (From-only (rank_of set.base) (λ n. leb lo n && leb n hi) (members (sequence_set set)) (members_rise (sequence_set set))) (rw (le-ltb 256 set.count bits, base) at e) in
-      with_members_lem (take count room) run.rises.from set lo hi bits low (first_asked set lo hi).rank f.0 f.1
-    where
-      head : (x : List ℕ) → From (rank_of set.base) x → empty x ≡ false → (has x (first_or 0 x) ≡ true) × From (first_or 0 x) x
-      head [] f e = absurd (true≢false e)
-      head (y ∷ ys) f e = (ap (λ (t : Bool). t || has ys y) (eq-eqb y y refl), (omega arith, f.1))
+  asked_run : (first : ℕ) (others : List ℕ) → asked_between set lo hi ≡ first ∷ others → with_members first (cut_set set lo hi) (take count room) ≡ all
+  asked_run first others e =
+      let rises : From (rank_of set.base) (asked_between set lo hi) = From-only (rank_of set.base) (λ n. leb lo n && leb n hi) (members (sequence_set set)) (members_rise (sequence_set set)) in
+      let after : From (rank_of set.base) (first ∷ others) = subst (From (rank_of set.base)) e rises in
+      let is : has (first ∷ others) first ≡ true = ap (λ (t : Bool). t || has others first) (eq-eqb first first refl) in
+      let from : From first (first ∷ others) = (omega arith, after.1) in
+      with_members_lem (take count room) run.rises.from set lo hi bits low first (rw e is) (subst (From first) (sym e) from)
 
   pub join_is : (r : ℕ) (u : List ℕ) → Gives1 r u (joined_in set lo hi count room) → (r ≡ length all) × (u ≡ room_of (length room) (smallest (length room) all))
-  join_is r u g = go (first_asked set lo hi).none refl (rw (le-leb count (length room) run.fits) at g)
+  join_is r u g = go (asked_between set lo hi) refl (rw (le-leb count (length room) run.fits, le-ltb 256 set.count bits, base) at g)
     where
-      go : (t : Bool) → (first_asked set lo hi).none ≡ t → Gives1 r u (cond (not t) (laid_in count room (with_members (first_asked set lo hi).rank (cut_set set lo hi) (take count room))) (record { result = count; first = room }))
+      go : (x : List ℕ) → asked_between set lo hi ≡ x → Gives1 r u (option_map_or (λ first. laid_in count room (with_members first (cut_set set lo hi) (take count room))) (slice_get x 0) (record { result = count; first = room }))
           → (r ≡ length all) × (u ≡ room_of (length room) (smallest (length room) all))
-      go true e k =
+      go [] e k =
           let n = none e in
           let s : smallest (length room) all ≡ take count room = ap (take (length room)) n ∙ take_all (length room) (take count room) (omega (arith, long, run.fits)) in
           (k.result ∙ sym (ap length n ∙ long), k.first ∙ room-is 0 count room run ∙ ap (room_of (length room)) (sym s))
-      go false e k =
-          let w = asked_run e in
-          let f : List ℕ → List ℕ = λ x. smallest (length room) all in
+      go (y ∷ ys) e k =
+          let w = asked_run y ys e in
           let y = in_room_lem 0 count room (λ x. smallest (length room) all) (smallest (length room) all) run refl (omega (arith, length-take (length room) all)) (length (smallest (length room) all)) u
           (changed (λ x. smallest (length room) all) count room run.fits (length (smallest (length room) all)) u refl (k.first ∙ ap (λ (x : List ℕ). over room count (smallest (length room) x)) w)) in
           (k.result ∙ ap length w, y.1)

@@ -1,13 +1,13 @@
 -- The members of a set joined to a run in lent room; each definition is for any list and any set. What it is for a rising run is said in the words of
 -- `sets` and proved (proofs/Meaning.antt). Assumes nothing.
-use Rattle.std.specs.Prelude.{ℕ, ◌+◌, ◌-◌, ◌≤◌, min, ◌≡◌, false, not, cond, ◌&&◌, ◌||◌, List, ◌++◌, leb, ltb, eqb, length, take, drop, replicate}
-use Rattle.sets.specs.Sets.{between, smallest, empty, first_or}
+use Rattle.std.specs.Prelude.{ℕ, ◌+◌, ◌-◌, ◌≤◌, min, ◌≡◌, false, cond, ◌||◌, Option, None, List, slice_get, ◌++◌, leb, ltb, eqb, length, take, drop, replicate}
+use Rattle.std.specs.Option.{option_map_or}
+use Rattle.sets.specs.Sets.{between, smallest}
 use Rattle.numbers.specs.Capacities.{most_bits}
 use Rattle.numbers.specs.Number.{rank_of, negative}
 use Rattle.numbers.specs.Promise.{Left1}
 use Rattle.rising.specs.Runs.{place_of, over}
 use Rattle.number_sets.specs.declared.sequence_number_set.SequenceNumberSet.{SequenceNumberSet}
-use Rattle.number_sets.specs.declared.sequence_number_set.NextRank.{NextRank}
 use Rattle.number_sets.specs.Bits.{members}
 use Rattle.number_sets.specs.Calls.{sequence_set, cut_set, joined_set}
 
@@ -30,12 +30,12 @@ lying first s l = take (end_in first s l - place_of first l) (drop (place_of fir
 abbrev pub with_members : ℕ → SequenceNumberSet → List ℕ → List ℕ
 with_members first s l = grown (place_of first l) (end_in first s l) (members (sequence_set (joined_set s (lying first s l)))) l
 
--- the members of a set from lo through hi, and the first of them. None joins from a set that has more than 256 bits or a negative base
+-- the members of a set from lo through hi, and the first of them that joins: none from a set that has more than 256 bits or a negative base
 abbrev pub asked_between : SequenceNumberSet → ℕ → ℕ → List ℕ
 asked_between s lo hi = between lo hi (members (sequence_set s))
 
-abbrev pub first_asked : SequenceNumberSet → ℕ → ℕ → NextRank
-first_asked s lo hi = record { none = ltb most_bits s.count || (negative s.base || empty (asked_between s lo hi)); rank = first_or 0 (asked_between s lo hi) }
+abbrev pub first_asked : SequenceNumberSet → ℕ → ℕ → Option ℕ
+first_asked s lo hi = cond (ltb most_bits s.count || negative s.base) None (slice_get (asked_between s lo hi) 0)
 
 -- a run l in a room a in which c numbers stood, cut to the room; and how many there are uncut
 abbrev pub laid_in : ℕ → List ℕ → List ℕ → Left1 ℕ (List ℕ)
@@ -44,8 +44,8 @@ laid_in c a l = record { result = length l; first = over a c (smallest (length a
 -- the run of `count` numbers after the members of the set from lo through hi have joined. A count past the room changes nothing
 abbrev pub joined_in : SequenceNumberSet → ℕ → ℕ → ℕ → List ℕ → Left1 ℕ (List ℕ)
 joined_in s lo hi count a =
-    cond (leb count (length a) && not (first_asked s lo hi).none)
-    (laid_in count a (with_members (first_asked s lo hi).rank (cut_set s lo hi) (take count a)))
+    option_map_or (λ first. laid_in count a (with_members first (cut_set s lo hi) (take count a)))
+    (cond (leb count (length a)) (first_asked s lo hi) None)
     (record { result = count; first = a })
 
 -- WITHIN: what the functions behind the tests ask

@@ -8,18 +8,17 @@ ghost use Rattle.number_sets.specs.Bits.{members};
 ghost use Rattle.number_sets.specs.Calls.{sequence_set};
 ghost use Rattle.joined_runs.specs.Joined.{first_asked, joined_in, with_members, laid_in, grown, resized, Within, Listable};
 
-use number_sets::{NextRank, SequenceNumberSet};
+use number_sets::SequenceNumberSet;
 use rising::{room, run};
 
 // The first member of a set from lo through hi, unless none joins.
-fn first_asked(set: SequenceNumberSet, lo: u64, hi: u64) -> NextRank
+fn first_asked(set: SequenceNumberSet, lo: u64, hi: u64) -> Option<u64>
     ensures { result ≡ first_asked set lo hi }
 {
-    let negative = set.base.is_negative();
-    let next = set.next_rank(lo, hi);
-    let none = (SequenceNumberSet::MOST_BITS < set.count) | (negative | next.none);
-    let rank = next.rank;
-    NextRank { none, rank }
+    if SequenceNumberSet::MOST_BITS < set.count || set.base.is_negative() {
+        return None;
+    }
+    set.next_rank(lo, hi)
 }
 
 // The numbers from place p up to place q get room for n: the last of them go, or zeros come after them.
@@ -29,9 +28,10 @@ fn resize(s: &mut [u64], count: usize, p: usize, q: usize, n: usize) -> usize
 {
     let old = q - p;
     if n < old {
-        return room::cut(s, count, p + n, old - n);
+        room::cut(s, count, p + n, old - n)
+    } else {
+        room::open(s, count, q, n - old)
     }
-    room::open(s, count, q, n - old)
 }
 
 // The members of a set stand in place of the numbers from place p up to place q, which have joined it: if there are as many, they stand there already.
@@ -64,10 +64,11 @@ fn join_some(s: &mut [u64], count: usize, set: SequenceNumberSet, first: u64) ->
 pub fn join(s: &mut [u64], count: usize, set: SequenceNumberSet, lo: u64, hi: u64) -> usize
     ensures { Gives1 result s.new (joined_in set lo hi count s.old) }
 {
-    let next = first_asked(set, lo, hi);
-    if (s.len() < count) | next.none {
+    if s.len() < count {
         return count;
     }
-    let asked = set.cut(lo, hi);
-    join_some(s, count, asked, next.rank)
+    let Some(first) = first_asked(set, lo, hi) else {
+        return count;
+    };
+    join_some(s, count, set.cut(lo, hi), first)
 }

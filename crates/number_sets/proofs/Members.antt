@@ -1,8 +1,9 @@
 -- The members of a set, place by place: what a cut and numbers that join leave, how many there are, which comes next. Assumes nothing.
 use Prim.Native.Nat.{ℕ, ◌+◌, ◌-◌, ◌≤◌, ◌<◌, min}
 use mathlib.Core.Path.{◌≡◌, refl, sym, ap, ◌∙◌}
-use mathlib.Core.Bool.{Bool, true, false, ◌&&◌, ◌||◌, true≢false}
-use mathlib.Core.List.{List}
+use mathlib.Core.Bool.{Bool, true, false, not, ◌&&◌, ◌||◌, true≢false, false≢true}
+use mathlib.Core.List.{List, [], ◌∷◌}
+use Rattle.std.specs.Prelude.{Some, None, is_some, slice_get}
 use mathlib.Core.Logic.{◌⊎◌, inl, inr}
 use lib.Dec.{ltb, leb}
 use lib.ListN.{length}
@@ -12,7 +13,7 @@ use Rattle.sets.specs.Sets.{has, union, only, between, those, empty, first_or}
 use Rattle.sets.proofs.Bools.{decide, and_left, and_right, or_comm}
 use Rattle.sets.proofs.Has.{has-between, has-union, From-only}
 use Rattle.sets.proofs.Those.{From-those, has_those_is, those_shift}
-use Rattle.sets.proofs.First.{first-is, first-none, first_cases, empty-none, empty-some}
+use Rattle.sets.proofs.First.{first-is, first_cases, empty-none, empty-some}
 use Rattle.number_sets.specs.Bits.{bit_at, next_bit, marked, eight_words, words_for, in_window}
 use Rattle.number_sets.proofs.Eight.{leb-same, ltb-same, words_same, bit_past, has_left, next_bit_none, next_bit_is}
 
@@ -103,6 +104,19 @@ next_bit_gives ws k c r e = go (first_cases k 0 (only (leb c) (those k 0 (bit_at
         let hi : r < k = omega (arith, ltb-true r (0 + k) (and_right (leb 0 r) (ltb r (0 + k)) (and_left (leb 0 r && ltb r (0 + k)) (bit_at ws r) s))) in
         record { most = omega arith; here = λ u. (lo, and_right (leb 0 r && ltb r (0 + k)) (bit_at ws r) s); none = λ m a b. off m a (omega arith) (f.1 m (omega (arith, e))) }
 
+-- the first of a list, where there is none and where there is one
+pub first_none : (l : List ℕ) → empty l ≡ true → slice_get l 0 ≡ None
+first_none [] e = refl
+first_none (x ∷ xs) e = absurd (false≢true e)
+
+pub first_some : (x : ℕ) (l : List ℕ) → empty l ≡ false → first_or 0 l ≡ x → slice_get l 0 ≡ Some x
+first_some x [] e f = absurd (true≢false e)
+first_some x (y ∷ ys) e f = ap (λ (n : ℕ). Some n) f
+
+pub first_there : (l : List ℕ) → is_some (slice_get l 0) ≡ not (empty l)
+first_there [] = refl
+first_there (x ∷ xs) = refl
+
 -- what a member from c through top is
 record Within (k b : ℕ) (ws : List ℕ) (c top n : ℕ) : Type 0 where
   pub above : c ≤ n
@@ -133,20 +147,16 @@ module _ (k b : ℕ) (ws : List ℕ) (c top i : ℕ) (next : NextIs ws k (c - b)
   off : ((n : ℕ) → Within k b ws c top n → ⊥) → (n : ℕ) → has (between c top (marked k b ws)) n ≡ false
   off f n = elim (decide (has (between c top (marked k b ws)) n)) [ inl e ↦ absurd (f n (within k b ws c top n e)) | inr e ↦ e ]
 
-  none_is : ((n : ℕ) → Within k b ws c top n → ⊥) → (empty (between c top (marked k b ws)) ≡ true) × (first_or 0 (between c top (marked k b ws)) ≡ 0)
-  none_is f = (empty-none (between c top (marked k b ws)) (off f), first-none 0 (between c top (marked k b ws)) (off f))
+  pub next-none : k ≤ i → slice_get (between c top (marked k b ws)) 0 ≡ None
+  next-none h = first_none _ (empty-none (between c top (marked k b ws)) (off (λ n w. before n w (omega (arith, w.high, w.low)))))
 
-  pub next-none : k ≤ i → (empty (between c top (marked k b ws)) ≡ true) × (first_or 0 (between c top (marked k b ws)) ≡ 0)
-  next-none h = none_is (λ n w. before n w (omega (arith, w.high, w.low)))
+  pub next-over : i < k → top < b + i → slice_get (between c top (marked k b ws)) 0 ≡ None
+  next-over h g = first_none _ (empty-none (between c top (marked k b ws)) (off (λ n w. before n w (omega (arith, w.below, w.low)))))
 
-  pub next-over : i < k → top < b + i → (empty (between c top (marked k b ws)) ≡ true) × (first_or 0 (between c top (marked k b ws)) ≡ 0)
-  next-over h g = none_is (λ n w. before n w (omega (arith, w.below, w.low)))
-
-  pub next-some : i < k → b + i ≤ top → (empty (between c top (marked k b ws)) ≡ false) × (first_or 0 (between c top (marked k b ws)) ≡ b + i)
-  next-some h g = (
-    empty-some (b + i) (between c top (marked k b ws)) here,
-    first-is 0 b (b + i) (between c top (marked k b ws)) (From-only b (λ n. leb c n && leb n top) (marked k b ws) (From-those k b (λ n. bit_at ws (n - b)))) here below,
-  )
+  pub next-some : i < k → b + i ≤ top → slice_get (between c top (marked k b ws)) 0 ≡ Some (b + i)
+  next-some h g =
+      first_some (b + i) _ (empty-some (b + i) (between c top (marked k b ws)) here)
+      (first-is 0 b (b + i) (between c top (marked k b ws)) (From-only b (λ n. leb c n && leb n top) (marked k b ws) (From-those k b (λ n. bit_at ws (n - b)))) here below)
     where
       here : has (between c top (marked k b ws)) (b + i) ≡ true
       here =

@@ -1,6 +1,6 @@
 -- What each call on a set answers. Assumes nothing.
-use Rattle.std.specs.Prelude.{ℕ, ◌+◌, ◌≤◌, ◌<◌, ◌^◌, max, refl, Bool, false, ◌||◌, List, [], ◌∷◌, leb, ltb, pos, length, replicate}
-use Rattle.sets.specs.Sets.{union, between, empty, first_or}
+use Rattle.std.specs.Prelude.{ℕ, ◌+◌, ◌≤◌, ◌<◌, ◌^◌, max, refl, Bool, false, ◌||◌, Option, List, [], ◌∷◌, leb, ltb, pos, length, replicate, slice_get}
+use Rattle.sets.specs.Sets.{union, between}
 use Rattle.numbers.specs.Capacities.{most_bits, top_acked}
 use Rattle.numbers.specs.declared.answer.Answer.{Answer}
 use Rattle.numbers.specs.Refusals.{Rows, row, done, unless}
@@ -15,7 +15,6 @@ use Rattle.numbers.specs.Cursor.{next_of_these, next_fragment_of_these}
 use Rattle.numbers.specs.Promise.{Left1}
 use Rattle.number_sets.specs.declared.sequence_number_set.SequenceNumberSet.{SequenceNumberSet}
 use Rattle.number_sets.specs.declared.sequence_number_set.Listed.{Listed}
-use Rattle.number_sets.specs.declared.sequence_number_set.NextRank.{NextRank}
 use Rattle.number_sets.specs.declared.sequence_number_set.WrittenNumbers.{WrittenNumbers}
 use Rattle.number_sets.specs.declared.sequence_number_set.Outside.{Outside}
 use Rattle.number_sets.specs.declared.fragment_number_set.FragmentNumberSet.{FragmentNumberSet}
@@ -57,8 +56,8 @@ pub record Readable (base count : ℕ) : Type 0 where
   pub few : count ≤ most_bits
 
 -- the smallest member from c through top
-abbrev pub next_rank : NumberSet → ℕ → ℕ → NextRank
-next_rank z c top = record { none = empty (between c top (members z)); rank = first_or 0 (between c top (members z)) }
+abbrev pub next_rank : NumberSet → ℕ → ℕ → Option ℕ
+next_rank z c top = slice_get (between c top (members z)) 0
 
 -- the signed 64-bit numbers reach to 2^63−1: a member past that has no sequence number
 abbrev pub next_member : SequenceNumberSet → Cursor → NextNumber

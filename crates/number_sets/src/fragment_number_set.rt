@@ -5,7 +5,7 @@ ghost use Rattle.numbers.specs.Promise.{Gives1};
 ghost use Rattle.number_sets.specs.Bits.{members};
 ghost use Rattle.number_sets.specs.Calls.{fragment_set, fragment_rows, members_listed, next_rank, next_fragment_member, of_fragments, wide_number, wide_set};
 
-use crate::sequence_number_set::{Listed, NextRank, SequenceNumberSet, set_answer};
+use crate::sequence_number_set::{Listed, SequenceNumberSet, set_answer};
 use numbers::{Answer, FragmentCursor, FragmentNumber, NextFragment, SequenceNumber};
 
 #[repr(C)]
@@ -59,7 +59,7 @@ impl FragmentNumberSet {
     }
 
     // The smallest member from `from` through `top`, whatever these are.
-    pub fn next_rank(self, from: u64, top: u64) -> NextRank
+    pub fn next_rank(self, from: u64, top: u64) -> Option<u64>
         ensures { result ≡ next_rank (fragment_set self) from top }
     {
         self.widened().next_rank(from, top)
@@ -70,11 +70,12 @@ impl FragmentNumberSet {
         ensures { result ≡ next_fragment_member self at }
     {
         let next = self.next_rank(at.from, 4294967295);
-        let count = self.count;
-        NextFragment::of(
-            set_answer(SequenceNumberSet::MOST_BITS < count, false, next.none),
-            next.rank,
-        )
+        let answer = set_answer(
+            SequenceNumberSet::MOST_BITS < self.count,
+            false,
+            next.is_none(),
+        );
+        NextFragment::of(answer, next.unwrap_or(0))
     }
 
     // Whether any member is n or more.
@@ -83,8 +84,7 @@ impl FragmentNumberSet {
     {
         // No member is as large as this.
         let end = narrow(self.base) + self.count as u64;
-        let next = self.next_rank(n, end);
-        !next.none
+        self.next_rank(n, end).is_some()
     }
 
     // How many members there are.

@@ -6,4 +6,4 @@ pub mod sequence_number_set;
 pub mod words;
 
 pub use fragment_number_set::{FragmentNumberSet, WrittenFragments};
-pub use sequence_number_set::{Listed, NextRank, SequenceNumberSet, WrittenNumbers};
+pub use sequence_number_set::{Listed, SequenceNumberSet, WrittenNumbers};

@@ -36,13 +36,6 @@ pub struct WrittenNumbers {
     pub set: SequenceNumberSet,
 }
 
-// A member as a natural number, unless there is none.
-#[derive(Clone, Copy)]
-pub struct NextRank {
-    pub none: bool,
-    pub rank: u64,
-}
-
 // Whether any of some numbers lies below a window, and whether any lies above it.
 #[derive(Clone, Copy)]
 pub struct Outside {
@@ -135,31 +128,17 @@ impl SequenceNumberSet {
     }
 
     // The smallest member from `from` through `top`, whatever these are.
-    pub fn next_rank(self, from: u64, top: u64) -> NextRank
+    pub fn next_rank(self, from: u64, top: u64) -> Option<u64>
         ensures { result ≡ next_rank (sequence_set self) from top }
     {
         let base = self.base.rank();
         let count = self.count as usize;
-        let words = self.words;
-        let place = words::start_of(base, from);
-        let i = words::next_place(words, count, place);
+        let i = words::next_place(self.words, count, words::start_of(base, from));
         if count <= i {
-            return NextRank {
-                none: true,
-                rank: 0,
-            };
+            return None;
         }
-        let n = base + (i as u64);
-        if top < n {
-            return NextRank {
-                none: true,
-                rank: 0,
-            };
-        }
-        NextRank {
-            none: false,
-            rank: n,
-        }
+        let n = base + i as u64;
+        if n <= top { Some(n) } else { None }
     }
 
     // The smallest member at or after the cursor, and the cursor past it.
@@ -167,7 +146,7 @@ impl SequenceNumberSet {
         ensures { result ≡ next_member self at }
     {
         let next = self.next_rank(at.from, SequenceNumber::LARGEST);
-        NextNumber::of(self.check(next.none), next.rank)
+        NextNumber::of(self.check(next.is_none()), next.unwrap_or(0))
     }
 
     // How many members there are.

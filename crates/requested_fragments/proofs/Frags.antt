@@ -17,7 +17,9 @@ use Rattle.sets.proofs.Has.{has-insert, has-only, From-insert, From-only, From-l
 use Rattle.sets.proofs.Bools.{decide, clash}
 use Rattle.sets.proofs.Those.{From-those, has_those_is}
 use Rattle.sets.proofs.Ext.{ext, From_off}
-use Rattle.sets.proofs.First.{first-is, first-none}
+use Rattle.std.specs.Prelude.{Some, None}
+use Rattle.sets.proofs.First.{first-is, empty-none, empty-some}
+use Rattle.number_sets.proofs.Members.{first_none, first_some}
 use Rattle.requested_fragments.specs.Words.{low_bit_of, low_bit_at, fragments_of, asking, not_asking, next_in}
 use Rattle.requested_fragments.proofs.Digit.{or_bit, xor_bit}
 
@@ -294,13 +296,14 @@ module _ (f : ℕ) (ws : List ℕ) (n : ℕ) (h : Searching f ws n) where
       go (inl e) = rw (e, k (leb-true f m e)) refl
       go (inr e) = rw e refl
 
-  pub search_found : has (fragments_of ws) n ≡ true → n ≡ next_in f ws
+  pub search_found : has (fragments_of ws) n ≡ true → Some n ≡ next_in f ws
   search_found e =
-      sym (first-is 0 1 n (only (leb f) (fragments_of ws)) (From-only 1 (leb f) (fragments_of ws) (frag-rises ws))
-      (has-only (leb f) (fragments_of ws) n ∙ rw (le-leb f n h.from, e) refl) (λ m u. unheld m (λ a. h.none m a u)))
+      let here : has (only (leb f) (fragments_of ws)) n ≡ true = has-only (leb f) (fragments_of ws) n ∙ rw (le-leb f n h.from, e) refl in
+      sym (first_some n (only (leb f) (fragments_of ws)) (empty-some n (only (leb f) (fragments_of ws)) here)
+      (first-is 0 1 n (only (leb f) (fragments_of ws)) (From-only 1 (leb f) (fragments_of ws) (frag-rises ws)) here (λ m u. unheld m (λ a. h.none m a u))))
 
-  pub search_none : length ws ≤ 64 → 4096 < n → 0 ≡ next_in f ws
-  search_none l u = sym (first-none 0 (only (leb f) (fragments_of ws)) (λ m. unheld m (λ a. go m a (decide (ltb m n)))))
+  pub search_none : length ws ≤ 64 → 4096 < n → None ≡ next_in f ws
+  search_none l u = sym (first_none (only (leb f) (fragments_of ws)) (empty-none (only (leb f) (fragments_of ws)) (λ m. unheld m (λ a. go m a (decide (ltb m n))))))
     where
       high : (m : ℕ) → 4096 < m → has (fragments_of ws) m ≡ false
       high m v = frag_of ws m (omega arith) ∙ past ws (m - 1) (omega arith)

@@ -1,19 +1,22 @@
 -- The calls on the table, way by way. Assumes nothing.
 use Prim.Native.Nat.{ℕ, zero, suc, ◌-◌, ◌*◌, ◌/◌, ◌≤◌, ◌<◌}
-use mathlib.Core.Path.{◌≡◌, refl, sym, ap, ◌∙◌}
+use mathlib.Core.Path.{◌≡◌, refl, ap, ◌∙◌}
 use mathlib.Core.Bool.{Bool, true, false, ◌&&◌}
 use mathlib.Core.List.{List, [], ◌∷◌}
 use native.Mathlib.Omega.{arith}
 use lib.Dec.{eqb, leb}
-use lib.ListN.{length, take, drop, get_or, length-drop}
+use lib.ListN.{length, take, drop, length-drop}
 use lib.Seq.{take_all}
 use borrow.Author.Tests.{le-leb, lt-leb, eq-eqb, ne_eqb}
 use Rattle.sets.proofs.Bools.{and_no}
 use Rattle.numbers.specs.Promise.{Gives1, Gives2}
 use Rattle.rising.specs.Runs.{zeros, run_coherent, over, in_room}
 use Rattle.rising.proofs.Meaning.{run_is}
-use Rattle.requested_fragments.specs.Words.{next_in}
-use Rattle.requested_fragments.specs.Entries.{next_sample, next_fragment}
+use Rattle.std.specs.Prelude.{Some, slice_get}
+use Rattle.sets.specs.Sets.{From, only, first_or}
+use Rattle.sets.proofs.Has.{From-only}
+use Rattle.requested_fragments.proofs.Frags.{frag-rises}
+use Rattle.requested_fragments.specs.Words.{fragments_of, next_in}
 use Rattle.requested_fragments.specs.Table.{table_of, entries_of, all_hold, frag_rooms_coherent, samples_in, words_in, mark_t, rooms_hold, marked_in, next_piece_of}
 
 -- what a cut leaves, where the run is in the room
@@ -67,31 +70,17 @@ module _ (count : ℕ) (S W : List ℕ) where
   marked-done n f r U Z hs hw g = rw (fit hs hw) (record { result = g.0; first = g.1; second = g.2 })
 
   -- ---- the next fragment
-  pub next-nothing : (f : ℕ) → (count ≡ 0 → ⊥) → length S ≡ 0 → record { none = true; sample = 0; fragment = 0 } ≡ next_piece_of f (entries_of count S W)
-  next-nothing f d h = go count S h
+  pub next_found : (f n k : ℕ) → (count ≡ 0 → ⊥) → slice_get S 0 ≡ Some n → next_in f (take 64 W) ≡ Some k → Some (record { sample = n; fragment = k }) ≡ next_piece_of f (entries_of count S W)
+  next_found f n k c s e = go count S c s
     where
-      go : (c : ℕ) (s : List ℕ) → length s ≡ 0 → record { none = true; sample = 0; fragment = 0 } ≡ next_piece_of f (entries_of c s W)
-      go zero s e = refl
-      go (suc c) [] e = refl
-      go (suc c) (x ∷ xs) e = absurd (omega arith)
+      first : (l : List ℕ) → From 1 l → slice_get l 0 ≡ Some k → (first_or 0 l ≡ k) × (eqb k 0 ≡ false)
+      first [] g z = cc
+      first (x ∷ xs) g z = let h : x ≡ k = cc in (h, ne_eqb k 0 (λ y. omega (arith, g.0)))
 
-  pub next-empty : (f : ℕ) → count ≡ 0 → record { none = true; sample = 0; fragment = 0 } ≡ next_piece_of f (entries_of count S W)
-  next-empty f e = rw e refl
+      is : (first_or 0 (only (leb f) (fragments_of (take 64 W))) ≡ k) × (eqb k 0 ≡ false)
+      is = first (only (leb f) (fragments_of (take 64 W))) (From-only 1 (leb f) (fragments_of (take 64 W)) (frag-rises (take 64 W))) e
 
-  head_of : (f : ℕ) → (count ≡ 0 → ⊥) → (length S ≡ 0 → ⊥) → (next_sample (entries_of count S W) ≡ get_or S 0 0) × (next_fragment f (entries_of count S W) ≡ next_in f (take 64 W))
-  head_of f c s = go count S c s
-    where
-      go : (k : ℕ) (l : List ℕ) → (k ≡ 0 → ⊥) → (length l ≡ 0 → ⊥) → (next_sample (entries_of k l W) ≡ get_or l 0 0) × (next_fragment f (entries_of k l W) ≡ next_in f (take 64 W))
+      go : (m : ℕ) (l : List ℕ) → (m ≡ 0 → ⊥) → slice_get l 0 ≡ Some n → Some (record { sample = n; fragment = k }) ≡ next_piece_of f (entries_of m l W)
       go zero l p q = absurd (p refl)
-      go (suc k) [] p q = absurd (q refl)
-      go (suc k) (x ∷ xs) p q = (refl, refl)
-
-  module _ (f k : ℕ) (c : count ≡ 0 → ⊥) (s : length S ≡ 0 → ⊥) (e : k ≡ next_in f (take 64 W)) where
-    found : next_fragment f (entries_of count S W) ≡ k
-    found = (head_of f c s).1 ∙ sym e
-
-    pub next-none : k ≡ 0 → record { none = true; sample = 0; fragment = 0 } ≡ next_piece_of f (entries_of count S W)
-    next-none z = rw (found, z) refl
-
-    pub next-some : (k ≡ 0 → ⊥) → record { none = false; sample = get_or S 0 0; fragment = k } ≡ next_piece_of f (entries_of count S W)
-    next-some z = rw (found, ne_eqb k 0 z, (head_of f c s).0) refl
+      go (suc m) [] p q = cc
+      go (suc m) (x ∷ xs) p q = let same : x ≡ n = cc in rw (is.0, is.1, same) refl

@@ -1,13 +1,14 @@
 -- The members of a set from one number on, one by one. Assumes nothing.
 use Prim.Native.Nat.{ℕ, suc, ◌+◌, ◌≤◌, ◌<◌}
 use mathlib.Core.Path.{◌≡◌, refl, sym, ap, subst, ◌∙◌}
-use mathlib.Core.Bool.{Bool, true, false, ◌&&◌, ◌||◌, true≢false, false≢true}
+use mathlib.Core.Bool.{Bool, true, false, ◌&&◌, ◌||◌}
 use mathlib.Core.List.{List, [], ◌∷◌}
 use mathlib.Core.Logic.{◌⊎◌, inl, inr}
 use native.Mathlib.Omega.{arith}
 use lib.Dec.{leb}
 use borrow.Author.Tests.{leb-true, leb-false, le-leb, eq-eqb, ne_eqb}
-use Rattle.sets.specs.Sets.{has, From, between, empty, first_or}
+use Rattle.std.specs.Prelude.{Some, None, slice_get}
+use Rattle.sets.specs.Sets.{has, From, between}
 use Rattle.sets.proofs.Bools.{decide, and_left, and_right}
 use Rattle.sets.proofs.Has.{has-between, From-only}
 use Rattle.sets.proofs.Ext.{ext, From_off}
@@ -45,37 +46,25 @@ module _ (b c top : ℕ) (l : List ℕ) (g : From b l) where
               From_off (suc x) xs n f.1 (omega (arith, leb-false (x + 1) n p))
               ∙ sym (has-between (x + 1) top l n ∙ ap (λ (t : Bool). (t && leb n top) && has l n) p)
 
-  pub onward : empty (between c top l) ≡ false → (c ≤ first_or 0 (between c top l)) × (first_or 0 (between c top l) ≤ top) × (between c top l ≡ first_or 0 (between c top l) ∷ between (first_or 0 (between c top l) + 1) top l)
-  onward e = go (between c top l) refl e
-    where
-      go : (m : List ℕ) → between c top l ≡ m → empty m ≡ false → (c ≤ first_or 0 m) × (first_or 0 m ≤ top) × (m ≡ first_or 0 m ∷ between (first_or 0 m + 1) top l)
-      go [] q z = absurd (true≢false z)
-      go (x ∷ xs) q z = let r = rest x xs q in (r.0, r.1, ap (λ (y : List ℕ). x ∷ y) r.2)
-
 -- ---- the loop that asks for them
 pub record Asked (ms : List ℕ) (b : ℕ) (ws₀ ws : List ℕ) (from : ℕ) : Type 0 where
   pub left : ask_all (between 1 4096 ms) ws₀ ≡ ask_all (between from 4096 ms) ws
 
-pub asked_start : (ms : List ℕ) (b : ℕ) (ws : List ℕ) → Asked ms b ws ws 1
-asked_start ms b ws = record { left = refl }
+module _ (ms : List ℕ) (b : ℕ) (g : From b ms) (ws₀ ws : List ℕ) (from : ℕ) (h : Asked ms b ws₀ ws from) where
+  pub asked_next : (f : ℕ) → slice_get (between from 4096 ms) 0 ≡ Some f → (from ≤ f) × (f ≤ 4096) × Asked ms b ws₀ (asking f ws) (f + 1)
+  asked_next f e = go (between from 4096 ms) refl e
+    where
+      go : (m : List ℕ) → between from 4096 ms ≡ m → slice_get m 0 ≡ Some f → (from ≤ f) × (f ≤ 4096) × Asked ms b ws₀ (asking f ws) (f + 1)
+      go [] q z = cc
+      go (x ∷ xs) q z =
+          let same : x ≡ f = cc in
+          let r = rest b from 4096 ms g x xs q in
+          subst (λ (y : ℕ). (from ≤ y) × (y ≤ 4096) × Asked ms b ws₀ (asking y ws) (y + 1)) same
+          (r.0, r.1, record { left = h.left ∙ ap (λ (m : List ℕ). ask_all m ws) q ∙ ap (λ (m : List ℕ). ask_all m (asking x ws)) r.2 })
 
-module _ (ms : List ℕ) (b : ℕ) (g : From b ms) (ws₀ ws : List ℕ) (from r : ℕ) (h : Asked ms b ws₀ ws from) (e : r ≡ first_or 0 (between from 4096 ms)) where
-  module _ (s : empty (between from 4096 ms) ≡ false) where
-    on : (from ≤ r) × (r ≤ 4096) × (between from 4096 ms ≡ r ∷ between (r + 1) 4096 ms)
-    on = subst (λ (x : ℕ). (from ≤ x) × (x ≤ 4096) × (between from 4096 ms ≡ x ∷ between (x + 1) 4096 ms)) (sym e) (onward b from 4096 ms g s)
-
-    pub asked_lo : from ≤ r
-    asked_lo = on.0
-
-    pub asked_hi : r ≤ 4096
-    asked_hi = on.1
-
-    pub asked_step : Asked ms b ws₀ (asking r ws) (r + 1)
-    asked_step = record { left = h.left ∙ ap (λ (m : List ℕ). ask_all m ws) on.2 }
-
-  pub asked_end : empty (between from 4096 ms) ≡ true → ws ≡ ask_all (between 1 4096 ms) ws₀
+  pub asked_end : slice_get (between from 4096 ms) 0 ≡ None → ws ≡ ask_all (between 1 4096 ms) ws₀
   asked_end z = sym (h.left ∙ go (between from 4096 ms) z)
     where
-      go : (m : List ℕ) → empty m ≡ true → ask_all m ws ≡ ws
+      go : (m : List ℕ) → slice_get m 0 ≡ None → ask_all m ws ≡ ws
       go [] q = refl
-      go (x ∷ xs) q = absurd (false≢true q)
+      go (x ∷ xs) q = cc

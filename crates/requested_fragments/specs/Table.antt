@@ -1,5 +1,5 @@
 -- The entries in rooms: a table of samples, each with its 64 words. Assumes nothing.
-use Rattle.std.specs.Prelude.{ℕ, zero, suc, ◌*◌, Bool, true, cond, not, ◌&&◌, List, [], ◌∷◌, ◌++◌, eqb, leb, length, take, drop, replicate}
+use Rattle.std.specs.Prelude.{ℕ, zero, suc, ◌*◌, Bool, true, cond, not, ◌&&◌, Option, None, Some, List, [], ◌∷◌, ◌++◌, eqb, leb, length, take, drop, replicate}
 use Rattle.sets.specs.Sets.{empty, between}
 use Rattle.numbers.specs.Capacities.{most_frag_samples, sample_words, top_fragment}
 use Rattle.numbers.specs.Promise.{Left2}
@@ -7,7 +7,7 @@ use Rattle.rising.specs.Runs.{zeros, run_coherent, over, room_of}
 use Rattle.number_sets.specs.declared.fragment_number_set.FragmentNumberSet.{FragmentNumberSet}
 use Rattle.number_sets.specs.Bits.{members}
 use Rattle.number_sets.specs.Calls.{fragment_set}
-use Rattle.requested_fragments.specs.declared.table.NextPiece.{NextPiece}
+use Rattle.requested_fragments.specs.declared.table.SampleFragment.{SampleFragment}
 use Rattle.requested_fragments.specs.Words.{fragments_of, asking, not_asking}
 use Rattle.requested_fragments.specs.Entries.{Entry, samples_of, next_sample, next_fragment}
 
@@ -123,5 +123,5 @@ asked_in n ms count samples words =
     (rooms_holding (ask_t n ms (table_of count samples words)) count samples words)
     (same count samples words)
 
-abbrev pub next_piece_of : ℕ → List Entry → NextPiece
-next_piece_of f es = record { none = eqb (next_fragment f es) 0; sample = cond (eqb (next_fragment f es) 0) 0 (next_sample es); fragment = next_fragment f es }
+abbrev pub next_piece_of : ℕ → List Entry → Option SampleFragment
+next_piece_of f es = cond (eqb (next_fragment f es) 0) None (Some (record { sample = next_sample es; fragment = next_fragment f es }))

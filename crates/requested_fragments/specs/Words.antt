@@ -1,8 +1,8 @@
 -- The fragments that a run of 64-bit words asks for. Fragment f, from 1 on, is the bit of worth 2^((f−1) mod 64) in word (f−1) div 64.
 -- Assumes nothing.
-use Rattle.std.specs.Prelude.{ℕ, ◌-◌, ◌*◌, ◌/◌, ◌%◌, ◌^◌, Bool, cond, List, eqb, leb, length, get_or, set}
+use Rattle.std.specs.Prelude.{ℕ, ◌-◌, ◌*◌, ◌/◌, ◌%◌, ◌^◌, Bool, cond, Option, List, eqb, leb, length, get_or, set, slice_get}
 use Rattle.std.specs.Int.Bits.{bit_or, bit_xor}
-use Rattle.sets.specs.Sets.{has, only, those, first_or}
+use Rattle.sets.specs.Sets.{has, only, those}
 
 -- bit k of a word
 abbrev pub low_bit_of : ℕ → ℕ → Bool
@@ -24,6 +24,6 @@ asking f ws = cond (eqb f 0) ws (set ws ((f - 1) / 64) (bit_or (get_or ws ((f - 
 abbrev pub not_asking : ℕ → List ℕ → List ℕ
 not_asking f ws = cond (has (fragments_of ws) f) (set ws ((f - 1) / 64) (bit_xor (get_or ws ((f - 1) / 64) 0) (2 ^ ((f - 1) % 64)))) ws
 
--- the smallest fragment at or after f, or 0
-abbrev pub next_in : ℕ → List ℕ → ℕ
-next_in f ws = first_or 0 (only (leb f) (fragments_of ws))
+-- the smallest fragment at or after f
+abbrev pub next_in : ℕ → List ℕ → Option ℕ
+next_in f ws = slice_get (only (leb f) (fragments_of ws)) 0

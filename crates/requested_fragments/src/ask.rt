@@ -14,12 +14,7 @@ fn ask_all(words: &mut [u64], set: FragmentNumberSet)
     ensures { words.new ≡ ask_all (askable set) words.old }
 {
     let mut from: u64 = 1;
-    loop {
-        let next = set.next_rank(from, FragmentNumber::TOP);
-        if next.none {
-            return;
-        }
-        let f = next.rank;
+    while let Some(f) = set.next_rank(from, FragmentNumber::TOP) {
         bits::ask(words, f);
         from = f + 1;
     }
@@ -87,8 +82,7 @@ pub fn request(
     if words.len() / FragmentNumber::WORDS < count {
         return count;
     }
-    let first = set.next_rank(1, FragmentNumber::TOP);
-    if first.none {
+    if set.next_rank(1, FragmentNumber::TOP).is_none() {
         return count;
     }
     request_some(samples, words, count, n, set)

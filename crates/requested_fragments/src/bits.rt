@@ -68,25 +68,23 @@ pub fn any(words: &[u64]) -> bool
     acc != 0
 }
 
-// The smallest fragment from f on that the words ask for, bit by bit; 0 where there is none.
-fn search_bits(words: &[u64], f: u64) -> u64
+// The smallest fragment from f on that the words ask for, bit by bit.
+fn search_bits(words: &[u64], f: u64) -> Option<u64>
     requires { length words.now ≤ 64 }
     ensures { result ≡ next_in f words.now }
 {
-    let mut n = f;
-    while n <= FragmentNumber::TOP {
+    for n in f..=FragmentNumber::TOP {
         if asks(words, n) {
-            return n;
+            return Some(n);
         }
-        n += 1;
     }
-    0
+    None
 }
 
-// The smallest fragment from f on that the first 64 words ask for; 0 where there is none.
-pub fn next(words: &[u64], f: u64) -> u64
+// The smallest fragment from f on that the first 64 words ask for.
+pub fn next(words: &[u64], f: u64) -> Option<u64>
     ensures { result ≡ next_in f (take 64 words.now) }
 {
-    let end = numbers::arith::smaller(FragmentNumber::WORDS, words.len());
+    let end = FragmentNumber::WORDS.min(words.len());
     search_bits(&words[..end], f)
 }

@@ -5,4 +5,4 @@ pub mod ask;
 pub mod bits;
 pub mod table;
 
-pub use table::NextPiece;
+pub use table::SampleFragment;

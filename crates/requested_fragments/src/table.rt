@@ -12,10 +12,9 @@ use numbers::FragmentNumber;
 // The most samples with requested fragments.
 pub const MOST_SAMPLES: usize = 16;
 
-// A fragment of a sample, unless there is none.
-#[derive(Clone, Copy)]
-pub struct NextPiece {
-    pub none: bool,
+// A fragment of a sample.
+#[derive(Clone, Copy, Debug, PartialEq, Eq)]
+pub struct SampleFragment {
     pub sample: u64,
     pub fragment: u64,
 }
@@ -119,34 +118,13 @@ pub fn keep_from(samples: &mut [u64], words: &mut [u64], count: usize, n: u64) -
 }
 
 // The next fragment at or after f: the smallest of the smallest sample.
-pub fn next(samples: &[u64], words: &[u64], count: usize, f: u64) -> NextPiece
+pub fn next(samples: &[u64], words: &[u64], count: usize, f: u64) -> Option<SampleFragment>
     ensures { result ≡ next_piece_of f (entries_of count samples.now words.now) }
 {
     if count == 0 {
-        return NextPiece {
-            none: true,
-            sample: 0,
-            fragment: 0,
-        };
+        return None;
     }
-    if samples.len() == 0 {
-        return NextPiece {
-            none: true,
-            sample: 0,
-            fragment: 0,
-        };
-    }
-    let k = bits::next(words, f);
-    if k == 0 {
-        return NextPiece {
-            none: true,
-            sample: 0,
-            fragment: 0,
-        };
-    }
-    NextPiece {
-        none: false,
-        sample: samples[0],
-        fragment: k,
-    }
+    let sample = *samples.first()?;
+    let fragment = bits::next(words, f)?;
+    Some(SampleFragment { sample, fragment })
 }

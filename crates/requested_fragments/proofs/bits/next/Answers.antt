@@ -9,4 +9,4 @@ use Rattle.requested_fragments.proofs.bits.next.Goals as goal
 pub returns : goal.returns
 returns c =
     let g = c.args in
-    c.search_bits.ensures ∙ ap (λ (k : ℕ). next_in g.f (take k g.words.now)) c.smaller-end.ensures ∙ ap (next_in g.f) (take_min 64 g.words.now)
+    c.search_bits.ensures ∙ ap (λ (k : ℕ). next_in g.f (take k g.words.now)) c.min-end.ensures ∙ ap (next_in g.f) (take_min 64 g.words.now)

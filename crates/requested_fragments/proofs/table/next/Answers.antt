@@ -1,8 +1,10 @@
 -- `next` meets its contract. Assumes nothing.
-use Rattle.requested_fragments.proofs.Laws.{next-none}
+use mathlib.Core.Path.{sym, ap, ◌∙◌}
+use Rattle.std.specs.Option.{option_copied}
+use Rattle.requested_fragments.proofs.Laws.{next_found}
 use Rattle.requested_fragments.proofs.table.next.Goals as goal
 
-pub returns-then-k-eq0 : goal.returns-then-k-eq0
-returns-then-k-eq0 c =
+pub returns : goal.returns
+returns c =
     let g = c.args in
-    next-none g.count g.samples.now g.words.now g.f _ c.if-count-eq0.false c.if-samples-eq0.false c.next-k.ensures c.if-k-eq0.true
+    next_found g.count g.samples.now g.words.now g.f _ _ c.if-count-eq0.false (sym c.first.ensures.value ∙ ap option_copied c.in_ok-sample.was) (sym c.next.ensures ∙ c.in_ok-fragment.was)

@@ -1,11 +1,12 @@
 -- `reaches` meets its contract. Assumes nothing.
 use Prim.Native.Nat.{ℕ, ◌+◌}
+use Rattle.std.specs.Prelude.{Option, is_some, slice_get, leb}
 use mathlib.Core.Path.{ap, ◌∙◌}
-use mathlib.Core.Bool.{not}
 use mathlib.Core.List.{List}
 use native.Mathlib.Omega.{arith}
-use Rattle.sets.specs.Sets.{empty}
-use Rattle.number_sets.specs.declared.sequence_number_set.NextRank.{NextRank}
+use Rattle.sets.specs.Sets.{only}
+use Rattle.number_sets.specs.Bits.{members}
+use Rattle.number_sets.proofs.Members.{first_there}
 use Rattle.number_sets.specs.Calls.{fragment_set}
 use Rattle.number_sets.proofs.Meaning.{onward_all}
 use Rattle.number_sets.proofs.fragment_number_set.FragmentNumberSet.reaches.Goals as goal
@@ -16,4 +17,4 @@ returns c =
     let z = fragment_set g in
     let b = c.narrow.ensures.0 in
     let e = onward_all z c.args.n (c.narrow.result + g.count) (omega (arith, b)) in
-    ap (λ (x : NextRank). not x.none) c.next_rank-next.ensures ∙ ap (λ (l : List ℕ). not (empty l)) e
+    c.is_some.ensures ∙ ap (λ (o : Option ℕ). is_some o) c.next_rank.ensures ∙ ap (λ (l : List ℕ). is_some (slice_get l 0)) e ∙ first_there (only (leb c.args.n) (members z))

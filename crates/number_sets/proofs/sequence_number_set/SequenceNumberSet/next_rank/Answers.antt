@@ -14,28 +14,25 @@ returns-then-count-i c =
     let b = rank_of z.base in
     let r = c.rank-base.ensures.is in
     let i = c.next_place-i.result in
-    let n = next_bit_gives z.words z.count (g.from - b) i (c.next_place-i.ensures ∙ ap (λ (x : ℕ). next_bit z.words z.count x) (c.start_of-place.ensures ∙ ap (λ (x : ℕ). g.from - x) r)) in
-    let e = next-none z.count b z.words g.from g.top i n c.if-count-i.true in
-    rw (e.0, e.1)
+    let n = next_bit_gives z.words z.count (g.from - b) i (c.next_place-i.ensures ∙ ap (λ (x : ℕ). next_bit z.words z.count x) (c.start_of.ensures ∙ ap (λ (x : ℕ). g.from - x) r)) in
+    rw (next-none z.count b z.words g.from g.top i n c.if-count-i.true)
 
-pub returns-then-top-n : goal.returns-then-top-n
-returns-then-top-n c =
+pub returns-then-n-top : goal.returns-then-n-top
+returns-then-n-top c =
     let g = c.args in
     let z = g.self in
     let b = rank_of z.base in
     let r = c.rank-base.ensures.is in
     let i = c.next_place-i.result in
-    let n = next_bit_gives z.words z.count (g.from - b) i (c.next_place-i.ensures ∙ ap (λ (x : ℕ). next_bit z.words z.count x) (c.start_of-place.ensures ∙ ap (λ (x : ℕ). g.from - x) r)) in
-    let e = next-over z.count b z.words g.from g.top i n c.if-count-i.false (omega (arith, r, c.if-top-n.true)) in
-    rw (e.0, e.1)
+    let n = next_bit_gives z.words z.count (g.from - b) i (c.next_place-i.ensures ∙ ap (λ (x : ℕ). next_bit z.words z.count x) (c.start_of.ensures ∙ ap (λ (x : ℕ). g.from - x) r)) in
+    rw (next-some z.count b z.words g.from g.top i n c.if-count-i.false (omega (arith, r, c.if-n-top.true)), r)
 
-pub returns : goal.returns
-returns c =
+pub returns-else-n-top : goal.returns-else-n-top
+returns-else-n-top c =
     let g = c.args in
     let z = g.self in
     let b = rank_of z.base in
     let r = c.rank-base.ensures.is in
     let i = c.next_place-i.result in
-    let n = next_bit_gives z.words z.count (g.from - b) i (c.next_place-i.ensures ∙ ap (λ (x : ℕ). next_bit z.words z.count x) (c.start_of-place.ensures ∙ ap (λ (x : ℕ). g.from - x) r)) in
-    let e = next-some z.count b z.words g.from g.top i n c.if-count-i.false (omega (arith, r, c.if-top-n.false)) in
-    rw (e.0, e.1, r)
+    let n = next_bit_gives z.words z.count (g.from - b) i (c.next_place-i.ensures ∙ ap (λ (x : ℕ). next_bit z.words z.count x) (c.start_of.ensures ∙ ap (λ (x : ℕ). g.from - x) r)) in
+    rw (next-over z.count b z.words g.from g.top i n c.if-count-i.false (omega (arith, r, c.if-n-top.false)))
