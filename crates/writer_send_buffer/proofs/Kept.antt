@@ -20,7 +20,8 @@ use Rattle.reader_list.specs.Slots.{frontier_of}
 use Rattle.writer_send_buffer.specs.Buffer.{flow_view, flow_form, told_no}
 use Rattle.writer_send_buffer.specs.Samples.{slot_of, bytes_of, with_bytes, lengths_fit, store_rows, store_coherent, write_rows, Shown, sample_shown, none_shown, fetch_of}
 use Rattle.writer_send_buffer.specs.History.{WriterLent, WriterCall, admit, set_acked, set_sent, evict_before, leaves, payloads_after, run_calls, history, Retains}
-use Rattle.writer_send_buffer.proofs.Slots.{slot_in, lt_or_ge, apart, over-length, over-same, over_other}
+use Rattle.std.proofs.lemmas.Bool.{cases_lt}
+use Rattle.writer_send_buffer.proofs.Slots.{slot_in, apart, over-length, over-same, over_other}
 use Rattle.writer_send_buffer.proofs.Sound.{holds, all_hold, Fits, Sound, sound_is, Writes, written_is, slot_below, next_slot, length-fits, fit_of}
 use Rattle.writer_send_buffer.proofs.Steps.{by_range, left_by, view_form, form_coherent, After, after, fits-admitted, fits-stored, fits-raised, fits-evicted}
 
@@ -130,7 +131,7 @@ module _ (l : WriterLent) (p : List ℕ) (opted : Bool) (w : Writes l.flow (leng
           (λ u.
           let z : start + i - 1 ≡ v.last = omega arith in
           rw (z, new_length) w.fits)
-          (lt_or_ge (start + i) (v.last + 1)))
+          (cases_lt (start + i) (v.last + 1)))
 
   abbrev g : Flow
   g = admitted v opted
@@ -174,7 +175,7 @@ module _ (l : WriterLent) (p : List ℕ) (opted : Bool) (w : Writes l.flow (leng
         let r : rank_of n ≡ v.last + 1 = omega arith in
         let q : v.last + 1 - 1 ≡ length h = omega (arith, k.numbered) in
         ap (bytes_of v bytes' lens') r ∙ new_bytes ∙ sym (get_or-append_seam h p [] []) ∙ ap (λ (x : ℕ). get_or (h ++ (p ∷ [])) x []) (sym q ∙ ap (λ (x : ℕ). x - 1) (sym r)))
-        (lt_or_ge (rank_of n) (v.last + 1))
+        (cases_lt (rank_of n) (v.last + 1))
 
     kept-write : Retains (record { flow = flow_form g; bytes = bytes'; lens = lens' }) (h ++ (p ∷ []))
     kept-write =

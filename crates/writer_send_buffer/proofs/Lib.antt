@@ -1,6 +1,6 @@
 -- Laws that belong to no one function.
-pub mod Calls
 pub mod AtMost
+pub mod Between
 pub mod Ring
 pub mod Slots
 pub mod Sound

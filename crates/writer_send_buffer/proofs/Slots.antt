@@ -1,31 +1,18 @@
--- Slots lie within the store, and don't meet: what is written into one is not seen in another. A part cut anywhere is as much as the store has there. Assumes nothing.
-use Prim.Native.Nat.{ℕ, zero, suc, ◌+◌, ◌-◌, ◌*◌, ◌/◌, ◌%◌, ◌<◌, ◌≤◌, min}
+-- Slots lie within the store, and don't meet: what is written into one is not seen in another. Assumes nothing.
+use Prim.Native.Nat.{ℕ, ◌+◌, ◌-◌, ◌*◌, ◌/◌, ◌%◌, ◌<◌, ◌≤◌}
 use mathlib.Core.Path.{◌≡◌, refl, sym, ap, ◌∙◌}
-use mathlib.Core.List.{List, [], ◌∷◌, ◌++◌, append_assoc}
-use mathlib.Core.Bool.{Bool, true, false}
-use mathlib.Core.Logic.{◌⊎◌, inl, inr, ⊎_elim}
-use lib.Dec.{ltb}
-use borrow.Author.Tests.{ltb-true, ltb-false}
-use native.Mathlib.Nat.{div-add-mod', mul-le-mul_right, mul-le-mul_left, le_trans, add-mul, one-mul, add-sub_cancel_left}
+use mathlib.Core.List.{List, ◌++◌, append_assoc}
+use mathlib.Core.Logic.{⊎_elim}
+use native.Mathlib.Nat.{div-add-mod', mul-le-mul_right, add-mul, one-mul}
 use native.Mathlib.Omega.{arith}
 use lib.ListN.{length, take, drop, length-append, length-take, length-drop, take-append-drop}
-use lib.Seq.{drop-append-le, take-append-le, drop-append-add, drop-drop, length-take-le, take_all, take_at, drop_at}
+use lib.Seq.{drop-append-le, take-append-le, drop-append-add, drop-drop, length-take-le, take_at, drop_at}
+use Rattle.std.proofs.lemmas.Bool.{cases_lt}
 use Rattle.writer_send_buffer.specs.Samples.{with_bytes}
-
--- the bytes of all slots
-pub area : {a b : ℕ} → a ≤ 256 → b ≤ 8192 → a * b ≤ 2097152
-area {a} {b} ha hb = le_trans (mul-le-mul_right b ha) (mul-le-mul_left 256 hb)
 
 -- the slot i of s slots of b bytes ends within
 pub slot_in : {i s : ℕ} (b : ℕ) → i < s → i * b + b ≤ s * b
 slot_in {i} {s} b h = let p : i + 1 ≤ s = omega arith in rw (add-mul, one-mul) at (mul-le-mul_right b p)
-
-pub lt_or_ge : (a b : ℕ) → (a < b) ⊎ (b ≤ a)
-lt_or_ge a b = go (ltb a b) refl
-  where
-    go : (t : Bool) → ltb a b ≡ t → (a < b) ⊎ (b ≤ a)
-    go true e = inl (ltb-true a b e)
-    go false e = inr (ltb-false a b e)
 
 -- numbers less than s apart have different slots
 pub apart : (s n m : ℕ) → n < m → m < n + s → n % s ≡ m % s → ⊥
@@ -33,7 +20,7 @@ apart s n m h k e =
     ⊎_elim
     (λ l. let p : n / s + 1 ≤ m / s = omega arith in omega (arith, slot_in s l, div-add-mod' n s, div-add-mod' m s))
     (λ l. omega (arith, mul-le-mul_right s l, div-add-mod' n s, div-add-mod' m s))
-    (lt_or_ge (n / s) (m / s))
+    (cases_lt (n / s) (m / s))
 
 module _ (s : List ℕ) (a : ℕ) (p : List ℕ) (fits : a + length p ≤ length s) where
   pub over-length : length (with_bytes s a p) ≡ length s
@@ -74,28 +61,4 @@ over_other s p b i j c h k l d =
     ⊎_elim
     (λ u. over-before s (i * b) p (omega arith) (j * b) c (omega (arith, slot_in b u)))
     (λ u. let v : i < j = omega arith in over-past s (i * b) p (omega arith) (j * b) c (omega (arith, slot_in b v)))
-    (lt_or_ge j i)
-
--- ---- a part of a store, as far as the store goes
-past : (l : List ℕ) (n : ℕ) → length l ≤ n → drop n l ≡ []
-past [] zero h = refl
-past [] (suc n) h = refl
-past (x ∷ xs) zero h = absurd (omega arith)
-past (x ∷ xs) (suc n) h = past xs n (omega arith)
-
-drop_min : (l : List ℕ) (n m : ℕ) → m ≡ min n (length l) → drop m l ≡ drop n l
-drop_min l n m e =
-    ⊎_elim
-    (λ h. let q : m ≡ n = omega arith in ap (λ (k : ℕ). drop k l) q)
-    (λ h. past l m (omega arith) ∙ sym (past l n h))
-    (lt_or_ge n (length l))
-
-take_min : (l : List ℕ) (n m : ℕ) → m ≡ min n (length l) → take m l ≡ take n l
-take_min l n m e =
-    ⊎_elim
-    (λ h. let q : m ≡ n = omega arith in ap (λ (k : ℕ). take k l) q)
-    (λ h. take_all m l (omega arith) ∙ sym (take_all n l h))
-    (lt_or_ge n (length l))
-
-pub part-is : (s : List ℕ) (start len a k : ℕ) → a ≡ min start (length s) → k ≡ min len (length s - a) → take (a + k - a) (drop a s) ≡ take len (drop start s)
-part-is s start len a k p q = rw add-sub_cancel_left (take_min (drop a s) len k (rw length-drop q) ∙ ap (take len) (drop_min s start a p))
+    (cases_lt j i)

@@ -1,13 +1,12 @@
 -- What the tests say, as facts on numbers. Assumes nothing.
 use Prim.Native.Nat.{ℕ, zero, suc, ◌+◌, ◌-◌, ◌*◌, ◌<◌, ◌≤◌, ◌%◌}
-use mathlib.Core.Path.{◌≡◌, refl, sym, ap, ◌∙◌}
+use mathlib.Core.Path.{◌≡◌, refl, sym, ap}
 use mathlib.Core.Bool.{Bool, true, false, not, cond, ◌&&◌}
-use mathlib.Core.List.{List, [], ◌∷◌, ◌++◌}
-use native.Mathlib.Nat.{mod-lt, add-sub_cancel, add-sub_cancel_left, add-zero, suc-add, add-suc}
+use mathlib.Core.List.{List, [], ◌∷◌}
+use native.Mathlib.Nat.{mod-lt, add-sub_cancel, add-zero, suc-add, add-suc}
 use native.Mathlib.Omega.{arith}
 use lib.Dec.{leb}
-use lib.ListN.{length, get_or, take, drop}
-use lib.Seq.{drop-drop}
+use lib.ListN.{length, get_or}
 use borrow.Author.Tests.{le-leb, leb-true, ltb-false, eqb-true, eqb-false, not-false}
 use Rattle.sets.proofs.Bools.{and_left, and_right, and_both}
 use Rattle.numbers.specs.Number.{rank_of, negative}
@@ -20,7 +19,7 @@ use Rattle.writer_send_buffer.specs.declared.flow.WriterSendBuffer.{WriterSendBu
 use Rattle.writer_send_buffer.specs.declared.samples.Located.{Located}
 use Rattle.writer_send_buffer.specs.Flow.{Flow, all_of, limit_rows, allowed, coherent_rows, flow_view_coherent, has_room, full, retained}
 use Rattle.writer_send_buffer.specs.Buffer.{flow_view, flow_coherent}
-use Rattle.writer_send_buffer.specs.Samples.{lengths_fit, store_rows, store_coherent, write_rows, slot_of, slot_start, with_bytes, fetch_rows, bytes_of, locate_of, part_of, sample_shown, none_shown, fetch_of}
+use Rattle.writer_send_buffer.specs.Samples.{lengths_fit, store_rows, store_coherent, write_rows, slot_of, slot_start, fetch_rows, locate_of}
 use Rattle.writer_send_buffer.proofs.Slots.{slot_in}
 
 pub holds : (bs : List Bool) → all_of bs ≡ true → (i : ℕ) → get_or bs i true ≡ true
@@ -155,10 +154,6 @@ slot_below f m a = mod-lt m a.slots-some
 pub next_slot : (f : Flow) (n : ℕ) → slot_of f (n + 1) ≡ n % f.limits.slots
 next_slot f n = ap (λ (m : ℕ). m % f.limits.slots) (add-sub_cancel n 1)
 
--- what is copied into a part of the store
-pub over-is : (s : List ℕ) (a : ℕ) (p : List ℕ) → take a s ++ (p ++ drop (a + length p - a) (drop a s)) ≡ with_bytes s a p
-over-is s a p = rw (add-sub_cancel_left, drop-drop)
-
 -- ---- a retained sample
 pub fit_at : (l : List ℕ) (s b m c i : ℕ) → lengths_fit l s b m c ≡ true → i < c → get_or l ((m + i) % s) 0 ≤ b
 fit_at l s b m zero i h k = absurd (omega arith)
@@ -218,17 +213,3 @@ module _ (f : WriterSendBuffer) (space : ℕ) (lens : List ℕ) (n : SequenceNum
           let k = fetched-is f space lens n (answer_of (fetch_rows f space lens n)) refl (eqb-true _ _ e) in
           sample_in f space lens k.sound (rank_of n) k.low k.high
       go false e = omega arith
-
-  fetched-there : (s : List ℕ) → length s ≡ space → record { answer = (locate_of f space lens n).answer; bytes = part_of (locate_of f space lens n) s } ≡ fetch_of f s lens n
-  fetched-there s q = rw q (go (is_done (answer_of (fetch_rows f space lens n))))
-    where
-      go : (t : Bool) → record { answer = (cond t found gone).answer; bytes = part_of (cond t found gone) s } ≡ cond t (sample_shown (bytes_of (flow_view f) s lens (rank_of n))) (none_shown (answer_of (fetch_rows f space lens n)))
-      go true = refl
-      go false = refl
-
--- what is shown of a part that was located
-pub fetched_at : (f : WriterSendBuffer) (s lens : List ℕ) (n : SequenceNumber) (at : Located) (bytes : List ℕ) → at ≡ locate_of f (length s) lens n → bytes ≡ part_of at s → record { answer = at.answer; bytes = bytes } ≡ fetch_of f s lens n
-fetched_at f s lens n at bytes p q =
-    ap (λ (b : List ℕ). record { answer = at.answer; bytes = b }) q
-    ∙ ap (λ (a : Located). record { answer = a.answer; bytes = part_of a s }) p
-    ∙ fetched-there f (length s) lens n s refl

@@ -1,50 +1,25 @@
 // Whether no number of a plain slice is above another.
-ghost use Rattle.std.specs.Prelude.{◌≡◌, true, ℕ, ◌≤◌};
+ghost use Rattle.std.specs.Prelude.{◌≡◌, true, ◌&&◌, leb, bit_or, fold};
 ghost use Rattle.writer_send_buffer.specs.Samples.{all_at_most};
 
-// A number that none of them is above: all of them or-ed, four to a turn and with no early exit, so that this becomes vector code.
+// A number that none of them is above: all of them or-ed, with no early exit, so that this becomes vector code.
 fn or_of(s: &[u64]) -> u64
-    ensures { (m : ℕ) → result ≤ m → all_at_most m s.now ≡ true }
+    ensures { result ≡ fold bit_or 0 s.now }
 {
-    let mut a: u64 = 0;
-    let mut b: u64 = 0;
-    let mut c: u64 = 0;
-    let mut d: u64 = 0;
-    let mut i = 0;
-    while 4 <= s.len() - i {
-        a = a | s[i];
-        b = b | s[i + 1];
-        c = c | s[i + 2];
-        d = d | s[i + 3];
-        i += 4;
-    }
-    let mut acc = (a | b) | (c | d);
-    while i < s.len() {
-        acc = acc | s[i];
-        i += 1;
-    }
-    acc
+    s.iter().fold(0, |or, x| or | x)
 }
 
 // Each compared.
 fn each_at_most(s: &[u64], most: u64) -> bool
-    ensures { result ≡ all_at_most most s.now }
+    ensures { result ≡ fold (λ fit x. fit && leb x most) true s.now }
 {
-    let mut fit = true;
-    let mut i = 0;
-    while i < s.len() {
-        fit = fit & (s[i] <= most);
-        i += 1;
-    }
-    fit
+    s.iter().fold(true, |fit, x| fit & (*x <= most))
 }
 
 // Whether none is above `most`. Mostly the or of them isn't either, and that is soon seen; where it is, each is compared.
+#[tactic(auto, using(crate::proofs::AtMost::or_fits))]
 pub(crate) fn all_at_most(s: &[u64], most: u64) -> bool
     ensures { result ≡ all_at_most most s.now }
 {
-    if or_of(s) <= most {
-        return true;
-    }
-    each_at_most(s, most)
+    or_of(s) <= most || each_at_most(s, most)
 }

@@ -3,16 +3,15 @@ ghost use Rattle.std.specs.Prelude.{◌≡◌, cond, ◌-◌, ◌<◌, ◌^◌};
 ghost use Rattle.numbers.specs.Number.{rank_of};
 ghost use Rattle.numbers.specs.Refusals.{answer_of, is_done, done};
 ghost use Rattle.writer_send_buffer.specs.Flow.{has_room, trims, full, trimmed, admit_rows, admitted};
-ghost use Rattle.writer_send_buffer.specs.Buffer.{flow_view, flow_form, flow_coherent, limited, ranged, new_flow_of};
+ghost use Rattle.writer_send_buffer.specs.Buffer.{flow_view, flow_form, flow_coherent, ranged, new_flow_of};
 ghost use Rattle.writer_send_buffer.specs.Buffer.{questioned, numbered_no, has_room_of, first_of, last_of};
 
 use crate::limits::{Kind, Limits};
-use numbers::arith::{above, larger};
 use numbers::{Answer, Refusal, SequenceNumber, Told};
 
 // The flow record. The payloads stand in a lent store beside it.
 #[repr(C)]
-#[derive(Clone, Copy)]
+#[derive(Clone, Copy, Debug, Default, PartialEq, Eq)]
 pub struct WriterSendBuffer {
     pub last: SequenceNumber,
     pub first: SequenceNumber,
@@ -23,9 +22,9 @@ pub struct WriterSendBuffer {
     pub limits: Limits,
 }
 
-// An answer with a sequence number.
+// An answer with a sequence number. As for all structs here that hold an answer beside what is answered: the C interface.
 #[repr(C)]
-#[derive(Clone, Copy)]
+#[derive(Clone, Copy, Default)]
 pub struct Numbered {
     pub answer: Answer,
     pub number: SequenceNumber,
@@ -33,7 +32,7 @@ pub struct Numbered {
 
 // An answer with the record as it then is.
 #[repr(C)]
-#[derive(Clone, Copy)]
+#[derive(Clone, Copy, Default)]
 pub struct Moved {
     pub answer: Answer,
     pub flow: WriterSendBuffer,
@@ -41,18 +40,11 @@ pub struct Moved {
 
 // The record's numbers as natural numbers.
 #[derive(Clone, Copy)]
-pub struct Ranks {
+pub(crate) struct Ranks {
     pub last: u64,
     pub first: u64,
     pub sent: u64,
     pub acked: u64,
-}
-
-// The answer of a call that a limit alone can refuse.
-fn limit_answer(limit: bool) -> Answer
-    ensures { result ≡ answer_of (limited limit) }
-{
-    Answer::done().unless(limit, Refusal::Limit)
 }
 
 impl WriterSendBuffer {
@@ -68,100 +60,95 @@ impl WriterSendBuffer {
     ) -> WriterSendBuffer
         ensures { result ≡ flow_form (record { last = last; first = first; sent = sent; acked = acked; present = present; kind = kind; limits = limits }) }
     {
-        let l = SequenceNumber::from_rank(last);
-        let f = SequenceNumber::from_rank(first);
-        let s = SequenceNumber::from_rank(sent);
-        let a = SequenceNumber::from_rank(acked);
-        WriterSendBuffer {
-            last: l,
-            first: f,
-            sent: s,
-            acked: a,
+        let n = Ranks {
+            last,
+            first,
+            sent,
+            acked,
+        };
+        let blank = WriterSendBuffer {
             present,
             kind,
             limits,
+            ..WriterSendBuffer::default()
+        };
+        blank.with_ranks(n)
+    }
+
+    // The record with these numbers.
+    pub(crate) fn with_ranks(self, n: Ranks) -> WriterSendBuffer
+        ensures { result ≡ flow_form (record { last = n.last; first = n.first; sent = n.sent; acked = n.acked; present = self.present; kind = self.kind; limits = self.limits }) }
+    {
+        WriterSendBuffer {
+            last: SequenceNumber::from_rank(n.last),
+            first: SequenceNumber::from_rank(n.first),
+            sent: SequenceNumber::from_rank(n.sent),
+            acked: SequenceNumber::from_rank(n.acked),
+            ..self
         }
     }
 
     pub(crate) fn ranks(self) -> Ranks
         ensures { (result ≡ record { last = rank_of self.last; first = rank_of self.first; sent = rank_of self.sent; acked = rank_of self.acked }) × (result.last < 2 ^ 63) }
     {
-        let last = self.last.rank();
-        let first = self.first.rank();
-        let sent = self.sent.rank();
-        let acked = self.acked.rank();
         Ranks {
-            last,
-            first,
-            sent,
-            acked,
+            last: self.last.rank(),
+            first: self.first.rank(),
+            sent: self.sent.rank(),
+            acked: self.acked.rank(),
         }
     }
 
+    #[tactic(auto, using(crate::proofs::Between::between, sets::proofs::Bools::and_assoc))]
     pub fn is_coherent(self) -> bool
         ensures { result ≡ flow_coherent self }
     {
         let n = self.ranks();
-        let last_below = self.last.is_negative();
-        let sent_below = self.sent.is_negative();
-        let limits = self.limits;
-        let allowed = limits.are_allowed();
-        let slots = limits.slots;
-        let held = above(n.last + 1, n.first);
-        !last_below
-            & (!sent_below
-                & ((n.last <= SequenceNumber::LAST)
-                    & ((1 <= n.first)
-                        & ((n.first <= n.last + 1)
-                            & ((held <= slots)
-                                & ((n.sent <= n.last)
-                                    & ((1 <= n.acked) & ((n.acked <= n.last + 1) & allowed))))))))
+        !self.last.is_negative()
+            & !self.sent.is_negative()
+            & (n.last <= SequenceNumber::LAST)
+            & (1..=n.last + 1).contains(&n.first)
+            & ((n.last + 1).saturating_sub(n.first) <= self.limits.slots)
+            & (n.sent <= n.last)
+            & (1..=n.last + 1).contains(&n.acked)
+            & self.limits.are_allowed()
     }
 
     // The answer of a call that is refused where the record isn't coherent, or a number is out of its range.
     pub(crate) fn asked(self, range: bool) -> Answer
         ensures { result ≡ answer_of (ranged (flow_coherent self) range) }
     {
-        let coherent = self.is_coherent();
         Answer::done()
             .unless(range, Refusal::Range)
-            .unless(!coherent, Refusal::Incoherent)
+            .unless(!self.is_coherent(), Refusal::Incoherent)
     }
 
     // What the record is after a call: the next, or where the call is refused the same.
     pub(crate) fn unless_refused(self, answer: Answer, next: WriterSendBuffer) -> WriterSendBuffer
         ensures { result ≡ cond (is_done answer) next self }
     {
-        if answer.number != 0 {
-            return self;
-        }
-        next
+        if answer.is_done() { next } else { self }
     }
 
-    // A new writer's record.
+    // A new writer's record; where a limit isn't allowed, zeros.
     pub fn new(kind: Kind, limits: Limits) -> Moved
         ensures { result ≡ new_flow_of kind limits }
     {
-        let counted = limits.with_0_as_1();
-        let allowed = counted.are_allowed();
-        let answer = limit_answer(!allowed);
-        if answer.number != 0 {
-            let none = Kind {
-                reliable: false,
-                builtin: false,
-                volatile: false,
+        let limits = limits.with_0_as_1();
+        let answer = Answer::done().unless(!limits.are_allowed(), Refusal::Limit);
+        if !answer.is_done() {
+            return Moved {
+                answer,
+                ..Moved::default()
             };
-            let zeros = Limits {
-                window: 0,
-                backlog: 0,
-                retain: 0,
-                slots: 0,
-                slot_bytes: 0,
-            };
-            let flow = WriterSendBuffer::formed(0, 0, 0, 0, false, none, zeros);
-            return Moved { answer, flow };
         }
-        let flow = WriterSendBuffer::formed(0, 1, 0, 1, false, kind, counted);
+        let flow = WriterSendBuffer {
+            first: SequenceNumber(1),
+            acked: SequenceNumber(1),
+            kind,
+            limits,
+            ..WriterSendBuffer::default()
+        };
         Moved { answer, flow }
     }
 
@@ -170,15 +157,11 @@ impl WriterSendBuffer {
         ensures { result ≡ has_room (flow_view self) opted }
     {
         let n = self.ranks();
-        let unsent = above(n.last, n.sent);
-        let unacked = above(n.last + 1, n.acked);
         let kind = self.kind;
-        let limits = self.limits;
-        let backlog = limits.backlog;
-        let window = limits.window;
-        kind.builtin
-            | (!(kind.reliable | opted)
-                | (!(backlog <= unsent) & (!kind.reliable | (!self.present | (unacked < window)))))
+        let unsent = n.last.saturating_sub(n.sent);
+        let unacked = (n.last + 1).saturating_sub(n.acked);
+        let in_window = !kind.reliable | !self.present | (unacked < self.limits.window);
+        kind.builtin | !(kind.reliable | opted) | ((unsent < self.limits.backlog) & in_window)
     }
 
     // Whether a write trims what is held to `retain`.
@@ -186,8 +169,7 @@ impl WriterSendBuffer {
         ensures { result ≡ trims (flow_view self) opted }
     {
         let kind = self.kind;
-        !kind.builtin
-            & (!(kind.reliable | opted) | (kind.reliable & (kind.volatile & !self.present)))
+        !kind.builtin & (!(kind.reliable | opted) | (kind.reliable & kind.volatile & !self.present))
     }
 
     // Whether a write finds all slots held, and trims none.
@@ -195,28 +177,21 @@ impl WriterSendBuffer {
         ensures { result ≡ full (flow_view self) opted }
     {
         let n = self.ranks();
-        let held = above(n.last + 1, n.first);
-        let trimmed = self.trims_for(opted);
-        let limits = self.limits;
-        let slots = limits.slots;
-        !trimmed & (slots <= held)
+        let held = (n.last + 1).saturating_sub(n.first);
+        !self.trims_for(opted) & (self.limits.slots <= held)
     }
 
     // What a write of `len` bytes is answered; `coherent` says whether the record and the lent store are.
     pub(crate) fn admission(self, coherent: bool, len: usize, opted: bool) -> Answer
         ensures { result ≡ answer_of (admit_rows coherent len (flow_view self) opted) }
     {
-        let last = self.last.rank();
-        let limits = self.limits;
-        let bytes = limits.slot_bytes as usize;
-        let room = self.room_for(opted);
-        let full = self.full_for(opted);
-        let used_up = last == SequenceNumber::LAST;
+        let used_up = self.last.rank() == SequenceNumber::LAST;
+        let too_long = (self.limits.slot_bytes as usize) < len;
         Answer::done()
-            .unless(full, Refusal::StoreFull)
-            .unless(!room, Refusal::WouldBlock)
+            .unless(self.full_for(opted), Refusal::StoreFull)
+            .unless(!self.room_for(opted), Refusal::WouldBlock)
             .unless(used_up, Refusal::UsedUp)
-            .unless(bytes < len, Refusal::Payload)
+            .unless(too_long, Refusal::Payload)
             .unless(!coherent, Refusal::Incoherent)
     }
 
@@ -225,10 +200,9 @@ impl WriterSendBuffer {
         ensures { result ≡ trimmed (flow_view self) opted }
     {
         let n = self.ranks();
-        let limits = self.limits;
-        let kept = above(n.last + 2, limits.retain);
+        let kept = (n.last + 2).saturating_sub(self.limits.retain);
         if self.trims_for(opted) {
-            larger(n.first, kept)
+            n.first.max(kept)
         } else {
             n.first
         }
@@ -239,18 +213,11 @@ impl WriterSendBuffer {
         ensures { result ≡ flow_form (admitted (flow_view self) opted) }
     {
         let n = self.ranks();
-        let first = self.first_after(opted);
-        let kind = self.kind;
-        let limits = self.limits;
-        WriterSendBuffer::formed(
-            n.last + 1,
-            first,
-            n.sent,
-            n.acked,
-            self.present,
-            kind,
-            limits,
-        )
+        self.with_ranks(Ranks {
+            last: n.last + 1,
+            first: self.first_after(opted),
+            ..n
+        })
     }
 
     // Room for one more sample, as a question of its own.
@@ -258,11 +225,8 @@ impl WriterSendBuffer {
         ensures { result ≡ has_room_of self opted }
     {
         let answer = self.asked(false);
-        let room = self.room_for(opted);
-        Told {
-            answer,
-            yes: (answer.number == 0) & room,
-        }
+        let yes = answer.is_done() & self.room_for(opted);
+        Told { answer, yes }
     }
 
     // The oldest number retained; last + 1 where none is.
@@ -284,10 +248,13 @@ impl WriterSendBuffer {
         ensures { result ≡ questioned self numbered_no (record { answer = done; number = number }) }
     {
         let answer = self.asked(false);
-        if answer.number != 0 {
-            let number = SequenceNumber::from_rank(0);
-            return Numbered { answer, number };
+        if answer.is_done() {
+            Numbered { answer, number }
+        } else {
+            Numbered {
+                answer,
+                ..Numbered::default()
+            }
         }
-        Numbered { answer, number }
     }
 }

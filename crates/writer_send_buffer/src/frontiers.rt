@@ -3,9 +3,8 @@ ghost use Rattle.std.specs.Prelude.{◌≡◌};
 ghost use Rattle.writer_send_buffer.specs.Flow.{wakes, stored};
 ghost use Rattle.writer_send_buffer.specs.Buffer.{flow_view, flow_form, acked_of, sent_of, evict_of, through_of, woken, moved};
 
-use crate::flow::{Moved, WriterSendBuffer};
+use crate::flow::{Moved, Ranks, WriterSendBuffer};
 use numbers::{SequenceNumber, Told};
-use numbers::arith::larger;
 use reader_list::AckedFrontier;
 
 // Whether to wake who waits, with the record as it then is.
@@ -21,25 +20,23 @@ impl WriterSendBuffer {
     fn frontier_wakes(self, a: u64) -> bool
         ensures { result ≡ wakes a (flow_view self) }
     {
-        let present = self.present;
-        let acked = self.acked.rank();
         if a == 0 {
-            return present;
+            self.present
+        } else {
+            !self.present | (self.acked.rank() < a)
         }
-        !present | (acked < a)
     }
 
-    // The record with the frontier stored.
+    // The record with the frontier stored; an absent one leaves the number that stood.
     fn frontier_stored(self, a: u64) -> WriterSendBuffer
         ensures { result ≡ flow_form (stored a (flow_view self)) }
     {
         let n = self.ranks();
-        let kind = self.kind;
-        let limits = self.limits;
-        if a == 0 {
-            return WriterSendBuffer::formed(n.last, n.first, n.sent, n.acked, false, kind, limits);
+        let acked = if a == 0 { n.acked } else { a };
+        WriterSendBuffer {
+            present: a != 0,
+            ..self.with_ranks(Ranks { acked, ..n })
         }
-        WriterSendBuffer::formed(n.last, n.first, n.sent, a, true, kind, limits)
     }
 
     // The acknowledgement frontier stored: it may lower.
@@ -47,17 +44,11 @@ impl WriterSendBuffer {
         ensures { result ≡ woken (acked_of self frontier) }
     {
         let a = frontier.rank();
-        let last = self.last.rank();
-        let answer = self.asked(last + 1 < a);
-        let wakes = self.frontier_wakes(a);
-        let next = self.frontier_stored(a);
-        let flow = self.unless_refused(answer, next);
+        let answer = self.asked(self.last.rank() + 1 < a);
+        let yes = answer.is_done() & self.frontier_wakes(a);
         Woken {
-            told: Told {
-                answer,
-                yes: (answer.number == 0) & wakes,
-            },
-            flow,
+            told: Told { answer, yes },
+            flow: self.unless_refused(answer, self.frontier_stored(a)),
         }
     }
 
@@ -68,25 +59,14 @@ impl WriterSendBuffer {
         let k = number.rank();
         let n = self.ranks();
         let answer = self.asked(n.last < k);
-        let kind = self.kind;
-        let limits = self.limits;
-        let raised = larger(n.sent, k);
-        let next = WriterSendBuffer::formed(
-            n.last,
-            n.first,
-            raised,
-            n.acked,
-            self.present,
-            kind,
-            limits,
-        );
-        let flow = self.unless_refused(answer, next);
+        let yes = answer.is_done() & (n.sent < k);
+        let next = self.with_ranks(Ranks {
+            sent: n.sent.max(k),
+            ..n
+        });
         Woken {
-            told: Told {
-                answer,
-                yes: (answer.number == 0) & (n.sent < k),
-            },
-            flow,
+            told: Told { answer, yes },
+            flow: self.unless_refused(answer, next),
         }
     }
 
@@ -97,32 +77,25 @@ impl WriterSendBuffer {
         let k = before.rank();
         let n = self.ranks();
         let answer = self.asked(n.last + 1 < k);
-        let kind = self.kind;
-        let limits = self.limits;
-        let start = larger(n.first, k);
-        let next = WriterSendBuffer::formed(
-            n.last,
-            start,
-            n.sent,
-            n.acked,
-            self.present,
-            kind,
-            limits,
-        );
-        let flow = self.unless_refused(answer, next);
-        Moved { answer, flow }
+        let next = self.with_ranks(Ranks {
+            first: n.first.max(k),
+            ..n
+        });
+        Moved {
+            answer,
+            flow: self.unless_refused(answer, next),
+        }
     }
 
     // Whether every reliable reader has all through the number.
     pub fn is_acked_through(self, number: SequenceNumber) -> Told
         ensures { result ≡ through_of self number }
     {
-        let t = number.rank();
-        let acked = self.acked.rank();
         let answer = self.asked(false);
+        let through = !self.present | (number.rank() < self.acked.rank());
         Told {
             answer,
-            yes: (answer.number == 0) & (!self.present | (t < acked)),
+            yes: answer.is_done() & through,
         }
     }
 }

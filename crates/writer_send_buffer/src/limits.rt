@@ -2,10 +2,8 @@
 ghost use Rattle.std.specs.Prelude.{◌≡◌, ◌-◌};
 ghost use Rattle.writer_send_buffer.specs.Flow.{allowed, limits_counted};
 
-use numbers::arith::larger;
-
 #[repr(C)]
-#[derive(Clone, Copy)]
+#[derive(Clone, Copy, Debug, Default, PartialEq, Eq)]
 pub struct Kind {
     pub reliable: bool,
     pub builtin: bool,
@@ -13,7 +11,7 @@ pub struct Kind {
 }
 
 #[repr(C)]
-#[derive(Clone, Copy)]
+#[derive(Clone, Copy, Debug, Default, PartialEq, Eq)]
 pub struct Limits {
     pub window: u64,
     pub backlog: u64,
@@ -32,23 +30,15 @@ impl Limits {
     pub const MOST_SLOT_BYTES: u64 = 8192;
 
     // Whether they are within the table, none 0.
+    #[tactic(auto, using(crate::proofs::Between::between, sets::proofs::Bools::and_assoc))]
     pub fn are_allowed(self) -> bool
         ensures { result ≡ allowed self }
     {
-        let window = self.window;
-        let backlog = self.backlog;
-        let retain = self.retain;
-        let slots = self.slots;
-        let bytes = self.slot_bytes;
-        (1 <= window)
-            & ((window <= Limits::MOST_WINDOW)
-                & ((1 <= backlog)
-                    & ((backlog <= Limits::MOST_BACKLOG)
-                        & ((1 <= retain)
-                            & ((retain <= slots)
-                                & ((1 <= slots)
-                                    & ((slots <= Limits::MOST_SLOTS)
-                                        & ((1 <= bytes) & (bytes <= Limits::MOST_SLOT_BYTES)))))))))
+        (1..=Limits::MOST_WINDOW).contains(&self.window)
+            & (1..=Limits::MOST_BACKLOG).contains(&self.backlog)
+            & (1..=self.slots).contains(&self.retain)
+            & (1..=Limits::MOST_SLOTS).contains(&self.slots)
+            & (1..=Limits::MOST_SLOT_BYTES).contains(&self.slot_bytes)
     }
 
     // 0 counts as 1, for the window, the backlog and retain.
@@ -56,11 +46,10 @@ impl Limits {
         ensures { result ≡ limits_counted self }
     {
         Limits {
-            window: larger(1, self.window),
-            backlog: larger(1, self.backlog),
-            retain: larger(1, self.retain),
-            slots: self.slots,
-            slot_bytes: self.slot_bytes,
+            window: self.window.max(1),
+            backlog: self.backlog.max(1),
+            retain: self.retain.max(1),
+            ..self
         }
     }
 }

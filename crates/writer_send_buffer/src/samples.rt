@@ -8,7 +8,6 @@ ghost use Rattle.writer_send_buffer.specs.Samples.{SlotRun, Slot, with_bytes, le
 use crate::at_most::all_at_most;
 use crate::flow::{Numbered, WriterSendBuffer};
 use crate::limits::Limits;
-use numbers::arith::{above, smaller};
 use numbers::{Answer, SequenceNumber};
 
 // What a write is answered, with the record as it then is.
@@ -19,9 +18,9 @@ pub struct Admitted {
     pub flow: WriterSendBuffer,
 }
 
-// Where a sample lies in the store.
+// Where a sample lies in the store. A start and a length, where a slice would say it: the C interface, which can return no slice.
 #[repr(C)]
-#[derive(Clone, Copy)]
+#[derive(Clone, Copy, Default)]
 pub struct Located {
     pub answer: Answer,
     pub start: usize,
@@ -35,38 +34,22 @@ pub struct Fetched<'a> {
     pub bytes: &'a [u8],
 }
 
-// dst becomes src.
-fn copy_in(dst: &mut [u8], src: &[u8])
-    requires { length dst.old ≡ length src.now }
-    ensures { dst.new ≡ src.now }
-{
-    let mut i = 0;
-    while i < dst.len() {
-        dst[i] = src[i];
-        i += 1;
-    }
-}
-
 // Whether the lengths of `count` samples, the first of them in the slot of `from`, are at most `most`. They stand in all of the ring, in one part of it, or
 // in two: up to its end, and from its start.
 fn lengths_fit(lens: &[u64], from: u64, count: u64, most: u64) -> bool
     requires { SlotRun lens.now count }
     ensures { result ≡ lengths_fit lens.now (length lens.now) most from count }
 {
-    let slots = lens.len();
     let held = count as usize;
-    if held == slots {
+    if held == lens.len() {
         return all_at_most(lens, most);
     }
-    let a = (from % (slots as u64)) as usize;
-    let e = a + held;
-    if e <= slots {
-        return all_at_most(&lens[a..e], most);
+    let first = (from % (lens.len() as u64)) as usize;
+    let (front, back) = lens.split_at(first);
+    if held <= back.len() {
+        return all_at_most(&back[..held], most);
     }
-    let rest = e - slots;
-    let front = all_at_most(&lens[a..], most);
-    let back = all_at_most(&lens[..rest], most);
-    front & back
+    all_at_most(back, most) & all_at_most(&front[..held - back.len()], most)
 }
 
 // The payload is copied into a slot: the only copy.
@@ -74,9 +57,8 @@ fn put_in(store: &mut [u8], lens: &mut [u64], payload: &[u8], slot: usize, bytes
     requires { Slot store.old lens.old payload.now slot bytes }
     ensures { (store.new ≡ with_bytes store.old (slot * bytes) payload.now) × (lens.new ≡ set lens.old slot (length payload.now)) }
 {
-    let a = slot * bytes;
-    let e = a + payload.len();
-    copy_in(&mut store[a..e], payload);
+    let start = slot * bytes;
+    store[start..start + payload.len()].copy_from_slice(payload);
     lens[slot] = payload.len() as u64;
 }
 
@@ -85,21 +67,17 @@ impl WriterSendBuffer {
     pub fn is_coherent_store(self, room: usize, lens: &[u64]) -> bool
         ensures { result ≡ store_coherent self room lens.now }
     {
-        let limits = self.limits;
-        let slots = limits.slots as usize;
-        let bytes = limits.slot_bytes as usize;
+        let slots = self.limits.slots as usize;
+        let bytes = self.limits.slot_bytes as usize;
         if !self.is_coherent() {
             return false;
         }
-        if lens.len() != slots {
+        if lens.len() != slots || room != slots * bytes {
             return false;
         }
-        if room != slots * bytes {
-            return false;
-        }
-        let last = self.last.rank();
-        let first = self.first.rank();
-        lengths_fit(lens, first - 1, above(last + 1, first), limits.slot_bytes)
+        let n = self.ranks();
+        let count = (n.last + 1).saturating_sub(n.first);
+        lengths_fit(lens, n.first - 1, count, self.limits.slot_bytes)
     }
 
     // The answer of a write of `len` bytes.
@@ -121,17 +99,18 @@ impl WriterSendBuffer {
         ensures { Gives2 result store.new lens.new (handed (admit_of self store.old lens.old payload.now opted)) }
     {
         let answer = self.write_answer(store.len(), lens, payload.len(), opted);
-        if answer.number != 0 {
-            let number = SequenceNumber::from_rank(0);
+        if !answer.is_done() {
+            let numbered = Numbered {
+                answer,
+                ..Numbered::default()
+            };
             return Admitted {
-                numbered: Numbered { answer, number },
+                numbered,
                 flow: self,
             };
         }
-        let limits = self.limits;
-        let last = self.last.rank();
-        let slot = (last % limits.slots) as usize;
-        put_in(store, lens, payload, slot, limits.slot_bytes as usize);
+        let slot = (self.last.rank() % self.limits.slots) as usize;
+        put_in(store, lens, payload, slot, self.limits.slot_bytes as usize);
         let flow = self.after(opted);
         let number = flow.last;
         Admitted {
@@ -141,17 +120,15 @@ impl WriterSendBuffer {
     }
 
     // Whether number n is retained, and the limits and `count` lengths give it a slot.
+    #[tactic(auto, using(crate::proofs::Between::between, sets::proofs::Bools::and_assoc))]
     fn has_place(self, count: usize, n: u64) -> bool
         ensures { result ≡ has_place (flow_view self) count n }
     {
-        let last = self.last.rank();
-        let first = self.first.rank();
-        let limits = self.limits;
-        let slots = limits.slots;
-        let bytes = limits.slot_bytes;
-        let within = (1 <= slots)
-            & ((slots <= Limits::MOST_SLOTS) & (bytes <= Limits::MOST_SLOT_BYTES));
-        ((first <= n) & (n <= last)) & ((count == slots as usize) & within)
+        let slots = self.limits.slots;
+        (self.first.rank()..=self.last.rank()).contains(&n)
+            & (count == slots as usize)
+            & (1..=Limits::MOST_SLOTS).contains(&slots)
+            & (self.limits.slot_bytes <= Limits::MOST_SLOT_BYTES)
     }
 
     // Where the bytes of a sample lie, in a store that was found coherent: after one `is_coherent_store` this serves for many samples. It doesn't look at the
@@ -160,21 +137,16 @@ impl WriterSendBuffer {
         ensures { result ≡ located_of self lens.now number }
     {
         let n = number.rank();
-        let there = self.has_place(lens.len(), n);
-        let answer = Answer::found(true, !there);
-        if !there {
+        if !self.has_place(lens.len(), n) {
             return Located {
-                answer,
-                start: 0,
-                length: 0,
+                answer: Answer::found(true, true),
+                ..Located::default()
             };
         }
-        let limits = self.limits;
-        let slot = (above(n, 1) % limits.slots) as usize;
-        let bytes = limits.slot_bytes as usize;
+        let slot = (n.saturating_sub(1) % self.limits.slots) as usize;
         Located {
-            answer,
-            start: slot * bytes,
+            answer: Answer::found(true, false),
+            start: slot * self.limits.slot_bytes as usize,
             length: lens[slot] as usize,
         }
     }
@@ -184,11 +156,9 @@ impl WriterSendBuffer {
         ensures { result ≡ locate_of self room lens.now number }
     {
         if !self.is_coherent_store(room, lens) {
-            let answer = Answer::coherence(false);
             return Located {
-                answer,
-                start: 0,
-                length: 0,
+                answer: Answer::coherence(false),
+                ..Located::default()
             };
         }
         self.located(lens, number)
@@ -212,8 +182,7 @@ impl Located {
     pub fn part<'a>(self, store: &'a [u8]) -> &'a [u8]
         ensures { result.now ≡ part_of self store.now }
     {
-        let a = smaller(self.start, store.len());
-        let e = a + smaller(self.length, store.len() - a);
-        &store[a..e]
+        let (_, rest) = store.split_at(self.start.min(store.len()));
+        &rest[..self.length.min(rest.len())]
     }
 }

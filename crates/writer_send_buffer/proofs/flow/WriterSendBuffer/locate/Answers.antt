@@ -5,6 +5,4 @@ use Rattle.writer_send_buffer.proofs.flow.WriterSendBuffer.locate.Goals as goal
 
 pub returns : goal.returns
 returns c =
-    let args = c.args in
-    let coherent = c.is_coherent_store in
-    c.located.ensures ∙ located_coherent args.self args.lens.now args.number args.room (sym coherent.ensures ∙ c.if-not-is_coherent_store.false)
+    c.located.ensures ∙ located_coherent c.args.self c.args.lens.now c.args.number c.args.room (sym c.is_coherent_store.ensures ∙ c.if-not-is_coherent_store.false)

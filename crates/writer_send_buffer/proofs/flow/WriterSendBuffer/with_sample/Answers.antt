@@ -1,17 +1,12 @@
 -- `with_sample` meets its contract. Assumes nothing.
-use Prim.Native.Nat.{ℕ, ◌+◌}
-use mathlib.Core.Path.{refl, ap, ◌∙◌}
-use mathlib.Core.Bool.{Bool}
-use mathlib.Core.List.{List}
+use Prim.Native.Nat.{◌+◌}
+use mathlib.Core.Path.{refl, sym, ap, ◌∙◌}
 use native.Mathlib.Omega.{arith}
 use lib.ListN.{length, set}
+use borrow.Author.Tests.{eqb-true}
 use Rattle.numbers.specs.Number.{rank_of, number_at}
 use Rattle.numbers.specs.Refusals.{done}
-use Rattle.numbers.specs.Promise.{Left3}
-use Rattle.numbers.specs.declared.answer.Answer.{Answer}
-use Rattle.numbers.proofs.Refused.{is_refused, is-done, gives2, done-is}
-use Rattle.writer_send_buffer.specs.declared.flow.Numbered.{Numbered}
-use Rattle.writer_send_buffer.specs.declared.flow.WriterSendBuffer.{WriterSendBuffer}
+use Rattle.numbers.proofs.Refused.{is-done, gives2, done-is}
 use Rattle.writer_send_buffer.specs.Flow.{admitted}
 use Rattle.writer_send_buffer.specs.Buffer.{flow_view, flow_form, numbered_no}
 use Rattle.writer_send_buffer.specs.Samples.{write_rows, admit_of, handed, with_bytes, slot_start, slot_of}
@@ -19,62 +14,40 @@ use Rattle.writer_send_buffer.proofs.Slots.{slot_in}
 use Rattle.writer_send_buffer.proofs.Sound.{written_is, slot_below, next_slot}
 use Rattle.writer_send_buffer.proofs.flow.WriterSendBuffer.with_sample.Goals as goal
 
-module _ (f : WriterSendBuffer) (s l p : List ℕ) (o : Bool) where
-  abbrev refusal : Answer → Left3 Numbered WriterSendBuffer (List ℕ) (List ℕ)
-  refusal a = record { result = numbered_no a; first = f; second = s; third = l }
-
-  abbrev written : Left3 Numbered WriterSendBuffer (List ℕ) (List ℕ)
-  written =
-      record {
-        result = record { answer = done; number = number_at (rank_of f.last + 1) };
-        first = flow_form (admitted (flow_view f) o);
-        second = with_bytes s (slot_start (flow_view f) (rank_of f.last + 1)) p;
-        third = set l (slot_of (flow_view f) (rank_of f.last + 1)) (length p);
-      }
-
-pub returns-then-answer-ne0 : goal.returns-then-answer-ne0
-returns-then-answer-ne0 c =
-    let args = c.args in
-    let write-answer = c.write_answer-answer in
-    let f = args.self in
-    let s = args.store.now in
-    let l = args.lens.now in
-    let p = args.payload.now in
-    let o = args.opted in
-    gives2 _ _ _ (handed (refusal f s l p o write-answer.result)) (handed (admit_of f s l p o))
-    (ap handed (is_refused (write_rows f (length s) l (length p) o) write-answer.result write-answer.ensures (refusal f s l p o) (written f s l p o) c.if-answer-ne0.true)) (rw c.from_rank-number.ensures) refl refl
-
 pub nonzero_rem-slot : goal.nonzero_rem-slot
 nonzero_rem-slot c =
-    let args = c.args in
-    let write-answer = c.write_answer-answer in
-    let if1 = c.if-answer-ne0 in
-    let w = written_is args.self (length args.store.now) args.lens.now (length args.payload.now) args.opted write-answer.result write-answer.ensures if1.false in
+    let e = eqb-true _ _ (sym c.is_done.ensures ∙ c.if-not-is_done.false) in
+    let w = written_is c.args.self (length c.args.store.now) c.args.lens.now (length c.args.payload.now) c.args.opted c.write_answer-answer.result c.write_answer-answer.ensures e in
     omega (arith, w.sound.flow.limits.slots-some)
 
 pub put_in-requires : goal.put_in-requires
 put_in-requires c =
-    let args = c.args in
-    let write-answer = c.write_answer-answer in
-    let if1 = c.if-answer-ne0 in
-    let w = written_is args.self (length args.store.now) args.lens.now (length args.payload.now) args.opted write-answer.result write-answer.ensures if1.false in
-    let i = slot_below args.self c.rank-last.result w.sound.flow.limits in
-    record { inside = omega (arith, i, w.sound.lens-length); within = omega (arith, slot_in args.self.limits.slot_bytes i, w.sound.space_is); fits = w.fits }
+    let e = eqb-true _ _ (sym c.is_done.ensures ∙ c.if-not-is_done.false) in
+    let w = written_is c.args.self (length c.args.store.now) c.args.lens.now (length c.args.payload.now) c.args.opted c.write_answer-answer.result c.write_answer-answer.ensures e in
+    let i = slot_below c.args.self c.rank.result w.sound.flow.limits in
+    record { inside = omega (arith, i, w.sound.lens-length); within = omega (arith, slot_in c.args.self.limits.slot_bytes i, w.sound.space_is); fits = w.fits }
 
 pub returns : goal.returns
 returns c =
-    let args = c.args in
-    let write-answer = c.write_answer-answer in
-    let f = args.self in
-    let s = args.store.now in
-    let l = args.lens.now in
-    let p = args.payload.now in
-    let o = args.opted in
-    let if1 = c.if-answer-ne0 in
-    let rank = c.rank-last in
-    let put_in = c.put_in in
-    gives2 _ _ _ (handed (written f s l p o)) (handed (admit_of f s l p o))
-    (ap handed (is-done (write_rows f (length s) l (length p) o) write-answer.result write-answer.ensures (refusal f s l p o) (written f s l p o) if1.false))
-    (rw (done-is (write_rows f (length s) l (length p) o) write-answer.result write-answer.ensures if1.false, c.after-flow.ensures))
-    (put_in.ensures.0 ∙ rw (next_slot (flow_view f) (rank_of f.last), rank.ensures.is) refl)
-    (put_in.ensures.1 ∙ rw (next_slot (flow_view f) (rank_of f.last), rank.ensures.is) refl)
+    let e = eqb-true _ _ (sym c.is_done.ensures ∙ c.if-not-is_done.false) in
+    let f = c.args.self in
+    let v = flow_view f in
+    let s = c.args.store.now in
+    let l = c.args.lens.now in
+    let p = c.args.payload.now in
+    let n = rank_of f.last in
+    let r = write_rows f (length s) l (length p) c.args.opted in
+    let a = c.write_answer-answer in
+    gives2 _ _ _ _ (handed (admit_of f s l p c.args.opted))
+    (ap handed
+    (is-done r a.result a.ensures (λ no. record { result = numbered_no no; first = f; second = s; third = l })
+    (record {
+      result = record { answer = done; number = number_at (n + 1) };
+      first = flow_form (admitted v c.args.opted);
+      second = with_bytes s (slot_start v (n + 1)) p;
+      third = set l (slot_of v (n + 1)) (length p);
+    })
+    e))
+    (rw (done-is r a.result a.ensures e, c.after-flow.ensures))
+    (c.put_in.ensures.0 ∙ rw (next_slot v n, c.rank.ensures.is) refl)
+    (c.put_in.ensures.1 ∙ rw (next_slot v n, c.rank.ensures.is) refl)
