@@ -1,26 +1,25 @@
 -- The acknowledgement: what stays, what joins, and the whole call. Assumes nothing.
 use Prim.Native.Nat.{ℕ, suc, ◌+◌, ◌-◌, ◌≤◌, ◌<◌, min, max}
-use mathlib.Core.Path.{◌≡◌, refl, sym, ap, subst, ◌∙◌}
+use mathlib.Core.Path.{◌≡◌, refl, sym, ap, ◌∙◌}
 use mathlib.Core.Bool.{Bool, true, false, not, cond, ◌&&◌, ◌||◌, true≢false}
-use mathlib.Core.List.{List, [], ◌∷◌}
+use mathlib.Core.List.{List}
 use native.Mathlib.Omega.{arith}
-use native.Mathlib.Numerals.{add-one}
-use lib.Dec.{leb, ltb}
+use lib.Dec.{leb, eqb}
 use lib.ListN.{length, take, length-take}
 use lib.Seq.{length-take-le}
-use borrow.Author.Tests.{lt-ltb, le-ltb, ltb-false, not-false}
+use borrow.Author.Tests.{eqb-true, lt-ltb, le-ltb, ltb-false, not-false}
 use Rattle.sets.specs.Sets.{From, only, between, union, smallest}
 use Rattle.sets.proofs.Bools.{and_left, and_right}
 use Rattle.sets.proofs.Has.{From_weak}
 use Rattle.numbers.specs.Capacities.{top_number}
 use Rattle.numbers.specs.Number.{rank_of, negative, in_range}
-use Rattle.numbers.specs.Refusals.{row, answer_of}
+use Rattle.numbers.specs.Refusals.{numbers, first_row, answer_at, answer_of, done}
 use Rattle.numbers.specs.Promise.{Left2, Gives1, Gives2}
 use Rattle.numbers.specs.declared.answer.Answer.{Answer}
 use Rattle.numbers.specs.declared.sequence_number.SequenceNumber.{SequenceNumber}
-use Rattle.numbers.specs.Answers.{earlier, in_turn}
-use Rattle.numbers.proofs.Refused.{clear, is_refused, is-done, gives2}
-use Rattle.numbers.proofs.Answered.{answer_refused, answer-done, left-done, turn-done}
+use Rattle.numbers.specs.Answers.{earlier, in_turn, answered}
+use Rattle.numbers.proofs.Refused.{clear}
+use Rattle.numbers.proofs.Answered.{left-done, turn-done}
 use Rattle.numbers.proofs.Ranks.{in_range_lem}
 use Rattle.number_sets.specs.declared.sequence_number_set.SequenceNumberSet.{SequenceNumberSet}
 use Rattle.number_sets.specs.Bits.{members}
@@ -34,8 +33,8 @@ use Rattle.joined_runs.proofs.Meaning.{join_is}
 use Rattle.rtps_reader_proxy.specs.declared.proxy.ReaderProxy.{ReaderProxy}
 use Rattle.rtps_reader_proxy.specs.declared.acks.AckNacked.{AckNacked}
 use Rattle.rtps_reader_proxy.specs.Reader.{base_of, is_late, is_ahead, staying, wanted, acked_after, left_out_of}
-use Rattle.rtps_reader_proxy.specs.Record.{proxy_coherent, room_for, unsent_coherent, gaps_coherent, gap_floor}
-use Rattle.rtps_reader_proxy.specs.Acks.{ack_rows, ack_fits, ack_nacked_of, among_answer, ack_nacked_among, ack_leaves, by_both, run_left, Stayable, Ackable, acked_with}
+use Rattle.rtps_reader_proxy.specs.Record.{proxy_coherent, unsent_coherent, gaps_coherent, gap_floor}
+use Rattle.rtps_reader_proxy.specs.Acks.{ack_rows, ack_fits, ack_nacked_of, ack_nacked_among, ack_leaves, by_both, run_left, Stayable, Ackable, acked_with}
 use Rattle.rtps_reader_proxy.proofs.Parts.{room_for_lem, smallest-fits, union_le}
 use Rattle.rtps_reader_proxy.proofs.UnsentCalls.{UnsentIs, unsent-is}
 use Rattle.rtps_reader_proxy.proofs.GapCalls.{GapsAre, gaps_are}
@@ -161,22 +160,7 @@ module _ (h : ReaderProxy) (unsent gaps : List ℕ) (set : SequenceNumberSet) (l
 
 -- THE WHOLE CALL
 
--- its rows, by what the code found
-pub ack_rows_lem : (set : SequenceNumberSet) (last : SequenceNumber) (h : ReaderProxy) (unsent gaps : List ℕ) (a : Answer) (x : ℕ) (f u g w n : Bool) (end b m : ℕ)
-    → x ≡ min set.count 256 → f ≡ room_for x h.unsent_cap h.unsent_count unsent → u ≡ unsent_coherent h unsent → g ≡ gaps_coherent h gaps → w ≡ in_range last top_number → n ≡ negative set.base → end ≡ rank_of last → b ≡ rank_of set.base → m ≡ max b 1
-    → a ≡ answer_of (row 1 refl (not (f && (u && g))) ∷ row 3 refl (ltb 256 set.count) ∷ row 2 refl (n || not w) ∷ row 12 refl (ltb (end + 1) m) ∷ [])
-    → a ≡ answer_of (ack_rows h unsent gaps set last)
-ack_rows_lem set last h unsent gaps a x f u g w n end b m ex ef eu eg ew en ee eb em q = q ∙ rw (ef, ex, eu, eg, ew, en, em, ee, eb, add-one)
-
 module _ (set : SequenceNumberSet) (last : SequenceNumber) (h : ReaderProxy) (unsent gaps : List ℕ) (a : Answer) (q : a ≡ answer_of (ack_rows h unsent gaps set last)) where
-  abbrev not_acked : Answer → Left2 AckNacked (List ℕ) (List ℕ)
-  not_acked x = record { result = record { answer = x; left_out = 0; proxy = h }; first = unsent; second = gaps }
-
-  pub ack_refused : (a.number ≡ 0 → ⊥) → Gives2 (record { answer = a; left_out = 0; proxy = h }) unsent gaps (ack_nacked_of set last h unsent gaps)
-  ack_refused z =
-      gives2 (record { answer = a; left_out = 0; proxy = h }) unsent gaps (not_acked a) (ack_nacked_of set last h unsent gaps)
-      (is_refused (ack_rows h unsent gaps set last) a q not_acked (ack_leaves set (rank_of last) h unsent gaps) z) refl refl refl
-
   module _ (z : a.number ≡ 0) where
     pub ackable : (end : ℕ) → end ≡ rank_of last → Ackable h unsent gaps set end
     ackable end e =
@@ -198,28 +182,20 @@ module _ (set : SequenceNumberSet) (last : SequenceNumber) (h : ReaderProxy) (un
         or_none_lem true y e = (e, absurd (true≢false e))
         or_none_lem false y e = (refl, e)
 
-    pub ack-done : (end : ℕ) (r : AckNacked) (u g : List ℕ) → end ≡ rank_of last → Gives2 r u g (ack_leaves set end h unsent gaps) → Gives2 r u g (ack_nacked_of set last h unsent gaps)
-    ack-done end r u g e p =
-        subst (Gives2 r u g) (ap (λ (x : ℕ). ack_leaves set x h unsent gaps) e ∙ is-done (ack_rows h unsent gaps set last) a q not_acked (ack_leaves set (rank_of last) h unsent gaps) z) p
-
 -- as one of a step's calls
 module _ (beside after : Answer) (set : SequenceNumberSet) (last : SequenceNumber) (h : ReaderProxy) (unsent gaps : List ℕ) (own : Answer) (q : own ≡ answer_of (ack_rows h unsent gaps set last))
     (all : Answer) (qa : all ≡ earlier own beside) (a : Answer) (qt : a ≡ in_turn all after) where
-  abbrev not_taken : Answer → Left2 AckNacked (List ℕ) (List ℕ)
-  not_taken x = record { result = record { answer = x; left_out = 0; proxy = h }; first = unsent; second = gaps }
-
-  is_among : a ≡ among_answer beside after set last h unsent gaps
-  is_among = qt ∙ ap (λ (x : Answer). in_turn x after) (qa ∙ ap (λ (x : Answer). earlier x beside) q)
-
-  pub among_refused : (a.number ≡ 0 → ⊥) → Gives2 (record { answer = a; left_out = 0; proxy = h }) unsent gaps (ack_nacked_among beside after set last h unsent gaps)
-  among_refused z =
-      gives2 (record { answer = a; left_out = 0; proxy = h }) unsent gaps (not_taken a) (ack_nacked_among beside after set last h unsent gaps)
-      (answer_refused (among_answer beside after set last h unsent gaps) a is_among not_taken (ack_leaves set (rank_of last) h unsent gaps) z) refl refl refl
-
   module _ (z : a.number ≡ 0) where
     pub own_done : own.number ≡ 0
     own_done = left-done own beside (sym (ap (λ (x : Answer). x.number) qa) ∙ (turn-done all after (sym (ap (λ (x : Answer). x.number) qt) ∙ z)).0)
 
-    pub among_done : (end : ℕ) (r : AckNacked) (u g : List ℕ) → end ≡ rank_of last → Gives2 r u g (ack_leaves set end h unsent gaps) → Gives2 r u g (ack_nacked_among beside after set last h unsent gaps)
-    among_done end r u g e p =
-        subst (Gives2 r u g) (ap (λ (x : ℕ). ack_leaves set x h unsent gaps) e ∙ answer-done (among_answer beside after set last h unsent gaps) a is_among not_taken (ack_leaves set (rank_of last) h unsent gaps) z) p
+-- among no others it is the call by itself
+pub alone : (set : SequenceNumberSet) (last : SequenceNumber) (h : ReaderProxy) (unsent gaps : List ℕ) → ack_nacked_among done done set last h unsent gaps ≡ ack_nacked_of set last h unsent gaps
+alone set last h unsent gaps = go (first_row numbers (ack_rows h unsent gaps set last)) (eqb (first_row numbers (ack_rows h unsent gaps set last)) 0) refl
+  where
+    outcome : Answer → Left2 AckNacked (List ℕ) (List ℕ)
+    outcome a = answered a (λ x. record { result = record { answer = x; left_out = 0; proxy = h }; first = unsent; second = gaps }) (ack_leaves set (rank_of last) h unsent gaps)
+
+    go : (k : ℕ) (t : Bool) → eqb k 0 ≡ t → outcome (cond t done (answer_at k)) ≡ outcome (answer_at k)
+    go k true e = ap (λ (x : ℕ). outcome (answer_at x)) (sym (eqb-true k 0 e))
+    go k false e = refl

@@ -1,7 +1,7 @@
 -- The calls on the requested fragments: refused, or the reader's step done in the rooms of samples and words. Assumes nothing.
 use Prim.Native.Nat.{ℕ, suc, ◌+◌, ◌≤◌, ◌<◌}
 use mathlib.Core.Path.{◌≡◌, refl, sym, ap, subst, ◌∙◌}
-use mathlib.Core.Bool.{Bool, true, false, not, cond, ◌&&◌, ◌||◌}
+use mathlib.Core.Bool.{Bool, true, false, not, ◌&&◌, ◌||◌}
 use mathlib.Core.Logic.{◌⊎◌, inl, inr}
 use mathlib.Core.List.{List, [], ◌∷◌}
 use native.Mathlib.Omega.{arith}
@@ -9,15 +9,14 @@ use native.Mathlib.Nat.{lt_irrefl}
 use lib.Dec.{leb, ltb, eqb}
 use lib.ListN.{length, take}
 use lib.Seq.{length-take-le}
-use borrow.Author.Tests.{not-false, eqb-false, leb-true, leb-false, ne_eqb}
+use borrow.Author.Tests.{not-false, eqb-true, eqb-false, leb-true, leb-false, ne_eqb}
 use Rattle.sets.specs.Sets.{has, From, empty, insert, only}
-use Rattle.sets.proofs.Bools.{and_left, and_right, decide, neither}
+use Rattle.sets.proofs.Bools.{and_assoc, and_left, and_right, decide, neither}
 use Rattle.numbers.specs.Capacities.{top_number, top_fragment}
 use Rattle.numbers.specs.Number.{rank_of, is_sample}
 use Rattle.numbers.specs.Refusals.{holds_in, Row, row, answer_of, done, Rows}
 use Rattle.numbers.specs.Promise.{Left2, Gives2}
 use Rattle.numbers.specs.declared.answer.Answer.{Answer}
-use Rattle.numbers.specs.declared.cursor.FragmentCursor.{FragmentCursor}
 use Rattle.numbers.specs.declared.sequence_number.SequenceNumber.{SequenceNumber}
 use Rattle.numbers.proofs.Refused.{clear, first-row, done-is, is_refused, is-done, gives2}
 use Rattle.number_sets.specs.declared.fragment_number_set.FragmentNumberSet.{FragmentNumberSet}
@@ -26,9 +25,8 @@ use Rattle.number_sets.specs.Calls.{fragment_set}
 use Rattle.rising.proofs.Meaning.{rises_are}
 use Rattle.rising.proofs.Inserts.{insert_le}
 use Rattle.rising.proofs.Changes.{insert-same}
-use Rattle.requested_fragments.specs.declared.table.NextPiece.{NextPiece}
-use Rattle.requested_fragments.specs.Entries.{Entry, requested, samples_of, next_sample, next_fragment, some}
-use Rattle.requested_fragments.specs.Table.{frag_rooms_coherent, table_of, entries_of, samples_room, words_room, ask_t, askable, rooms_hold, asked_in, marked_in, next_piece_of}
+use Rattle.requested_fragments.specs.Entries.{Entry, requested, samples_of, some}
+use Rattle.requested_fragments.specs.Table.{frag_rooms_coherent, table_of, entries_of, samples_room, words_room, ask_t, askable, rooms_hold, asked_in, marked_in}
 use Rattle.requested_fragments.proofs.Blocks.{samples_of_lem, samples-length}
 use Rattle.requested_fragments.proofs.Laws.{fit}
 use Rattle.requested_fragments.proofs.Coherent.{Coherent, is-coherent}
@@ -43,7 +41,7 @@ use Rattle.rtps_reader_proxy.specs.declared.proxy.Changed.{Changed}
 use Rattle.numbers.specs.declared.answer.Told.{Told}
 use Rattle.rtps_reader_proxy.specs.Reader.{Reader, needs_slot, frags_requested, frag_sent}
 use Rattle.rtps_reader_proxy.specs.Record.{proxy_coherent, room_for, changed}
-use Rattle.rtps_reader_proxy.specs.Fragments.{frags_coherent, entries_in, by_frags, frags_by, cannot_ask, no_slot, frags_requested_of, next_frag_of, next_frag_answer, repair_of}
+use Rattle.rtps_reader_proxy.specs.Fragments.{frags_coherent, entries_in, by_frags, frags_by, cannot_ask, no_slot, frags_requested_of, repair_of}
 use Rattle.rtps_reader_proxy.proofs.GapCalls.{above}
 use Rattle.rtps_reader_proxy.proofs.Parts.{room_for_lem}
 
@@ -63,9 +61,10 @@ too_high l = above top_fragment l
 -- what the code's test of a slot says
 pub slot_is : (n : ℕ) (set : FragmentNumberSet) (h : ReaderProxy) (samples words : List ℕ) (size : ℕ) (held : Bool)
     → size ≡ length (members (fragment_set set)) → held ≡ has (take h.frag_count samples) n
-    → (leb 16 h.frag_count && (not (eqb size 0) && not held)) ≡ no_slot n set h samples words
+    → ((leb 16 h.frag_count && not (eqb size 0)) && not held) ≡ no_slot n set h samples words
 slot_is n set h samples words size held es eh =
-    ap (λ (t : Bool). leb 16 h.frag_count && (not t && not held)) (ap (λ (k : ℕ). eqb k 0) es ∙ none_asked (members (fragment_set set)))
+    and_assoc (leb 16 h.frag_count) (not (eqb size 0)) (not held)
+    ∙ ap (λ (t : Bool). leb 16 h.frag_count && (not t && not held)) (ap (λ (k : ℕ). eqb k 0) es ∙ none_asked (members (fragment_set set)))
     ∙ ap (λ (t : Bool). leb 16 h.frag_count && (not (empty (members (fragment_set set))) && not t)) (eh ∙ ap (λ (l : List ℕ). has l n) (sym (samples_are h.frag_count samples words)))
 
 -- a request that is not refused with 2: its sample, its base and its members are as they must be
@@ -152,9 +151,6 @@ module _ (h : ReaderProxy) (samples words : List ℕ) (fits : Bool) (rows : List
         second = words_room (length samples) (f (by_frags h samples words)).frags;
       }
 
-  pub frags_refused : (f : Reader → Reader) → (a.number ≡ 0 → ⊥) → Gives2 (record { answer = a; proxy = h }) samples words (frags_by fits rows f h samples words)
-  frags_refused f n = gives2 (record { answer = a; proxy = h }) samples words (not_changed a) (frags_by fits rows f h samples words) (is_refused frag_rows a q not_changed (is-changed f) n) refl refl refl
-
   module _ (z : a.number ≡ 0) where
     frags_both : (fits && frags_coherent h samples words) ≡ true
     frags_both = not-false (fits && frags_coherent h samples words) (first-row (holds_in 1 rows) _ (clear frag_rows a q z 1 refl))
@@ -197,20 +193,9 @@ module _ (n : SequenceNumber) (set : FragmentNumberSet) (h : ReaderProxy) (sampl
   abbrev request_rows_lem : Bool → Bool → Bool → List Row
   request_rows_lem fits range full = row 1 refl (not (fits && frags_coherent h samples words)) ∷ row 3 refl (ltb 256 set.count) ∷ row 2 refl range ∷ row 10 refl full ∷ []
 
-  -- its rows, by what the code found
-  pub rows_found : (k : ℕ) (fits range full : Bool) → fits ≡ room → range ≡ cannot_ask n set → k ≡ rank_of n → full ≡ no_slot k set h samples words → a ≡ answer_of ((request_rows_lem fits range full))
-      → a ≡ answer_of ((request_rows_lem room (cannot_ask n set) (no_slot (rank_of n) set h samples words)))
-  rows_found k fits range full ew er ek ef q =
-      q ∙ ap (λ (t : Bool). answer_of ((request_rows_lem t range full))) ew
-      ∙ ap (λ (t : Bool). answer_of ((request_rows_lem room t full))) er
-      ∙ ap (λ (t : Bool). answer_of ((request_rows_lem room (cannot_ask n set) t))) (ef ∙ ap (λ (x : ℕ). no_slot x set h samples words) ek)
-
   module _ (q : a ≡ answer_of ((request_rows_lem room (cannot_ask n set) (no_slot (rank_of n) set h samples words)))) where
     abbrev these : List Row
     these = row 3 refl (ltb 256 set.count) ∷ row 2 refl (cannot_ask n set) ∷ row 10 refl (no_slot (rank_of n) set h samples words) ∷ []
-
-    pub request_refused : (a.number ≡ 0 → ⊥) → Gives2 (record { answer = a; proxy = h }) samples words (frags_requested_of n set h samples words)
-    request_refused z = frags_refused h samples words room these a q (frags_requested (rank_of n) (members (fragment_set set))) z
 
     pub request-done : a.number ≡ 0 → (k c : ℕ) (S W : List ℕ) (r : Changed) → k ≡ rank_of n → r ≡ changed a (count_frags c h) → Words W
         → Gives2 c S W (asked_in k (askable set) h.frag_count samples words) → Gives2 r S W (frags_requested_of n set h samples words)
@@ -218,21 +203,6 @@ module _ (n : SequenceNumber) (set : FragmentNumberSet) (h : ReaderProxy) (sampl
         let free = clear ((request_rows_lem room (cannot_ask n set) (no_slot (rank_of n) set h samples words))) a q z in
         requested-done h samples words room these a q z refl n set c S W r (free 2 refl) (free 10 refl) e w
         (subst (λ (x : ℕ). Gives2 c S W (asked_in x (askable set) h.frag_count samples words)) ek g)
-
--- the next fragment: where none is found, its sample doesn't matter
-pub next-piece : (at : FragmentCursor) (h : ReaderProxy) (samples words : List ℕ) (next : NextPiece) → next ≡ next_piece_of at.from (entries_in h samples words)
-    → next_frag_answer (row 1 refl (not (frags_coherent h samples words)) ∷ row 14 refl next.none ∷ []) next.sample next.fragment ≡ next_frag_of at h samples words
-next-piece at h samples words next v =
-    ap (λ (x : NextPiece). next_frag_answer (row 1 refl (not (frags_coherent h samples words)) ∷ row 14 refl x.none ∷ []) x.sample x.fragment) v
-    ∙ go (not (frags_coherent h samples words)) (eqb (next_fragment at.from (entries_in h samples words)) 0)
-  where
-    go : (i t : Bool)
-        → next_frag_answer (row 1 refl i ∷ row 14 refl t ∷ []) (cond t 0 (next_sample (entries_in h samples words))) (next_fragment at.from (entries_in h samples words))
-        ≡ next_frag_answer (row 1 refl i ∷ row 14 refl t ∷ []) (next_sample (entries_in h samples words)) (next_fragment at.from (entries_in h samples words))
-    go true true = refl
-    go true false = refl
-    go false true = refl
-    go false false = refl
 
 -- whether any is requested
 module _ (h : ReaderProxy) (samples words : List ℕ) (a : Answer) (q : a ≡ answer_of (row 1 refl (not (frags_coherent h samples words)) ∷ [])) where
@@ -242,15 +212,17 @@ module _ (h : ReaderProxy) (samples words : List ℕ) (a : Answer) (q : a ≡ an
   abbrev is-told : Told
   is-told = record { answer = done; yes = some (entries_in h samples words) }
 
-  pub repair_refused : (a.number ≡ 0 → ⊥) → not_told a ≡ repair_of h samples words
-  repair_refused z = is_refused (row 1 refl (not (frags_coherent h samples words)) ∷ []) a q not_told is-told z
-
-  pub repair_done : a.number ≡ 0 → ◌≡◌ {A = Told} (record { answer = a; yes = not (eqb h.frag_count 0) }) (repair_of h samples words)
-  repair_done z =
-      let c = count-is h.frag_count samples words (frags-known h samples words true [] a q z) in
-      let y : not (eqb h.frag_count 0) ≡ some (entries_in h samples words) = ap (λ (n : ℕ). not (eqb n 0)) (sym c) ∙ some_is (entries_in h samples words) in
-      rw (done-is (row 1 refl (not (frags_coherent h samples words)) ∷ []) a q z, y) (is-done (row 1 refl (not (frags_coherent h samples words)) ∷ []) a q not_told is-told z)
+  pub repair_is : ◌≡◌ {A = Told} (record { answer = a; yes = eqb a.number 0 && not (eqb h.frag_count 0) }) (repair_of h samples words)
+  repair_is = go (decide (eqb a.number 0))
     where
       some_is : (es : List Entry) → not (eqb (length (samples_of es)) 0) ≡ some es
       some_is [] = refl
       some_is (e ∷ es) = ap not (ne_eqb (suc (length (samples_of es))) 0 (λ z. lt_irrefl 0 (omega arith)))
+
+      go : (eqb a.number 0 ≡ true) ⊎ (eqb a.number 0 ≡ false) → ◌≡◌ {A = Told} (record { answer = a; yes = eqb a.number 0 && not (eqb h.frag_count 0) }) (repair_of h samples words)
+      go (inl t) =
+          let z = eqb-true a.number 0 t in
+          let c = count-is h.frag_count samples words (frags-known h samples words true [] a q z) in
+          let y : not (eqb h.frag_count 0) ≡ some (entries_in h samples words) = ap (λ (n : ℕ). not (eqb n 0)) (sym c) ∙ some_is (entries_in h samples words) in
+          rw (t, done-is (row 1 refl (not (frags_coherent h samples words)) ∷ []) a q z, y) (is-done (row 1 refl (not (frags_coherent h samples words)) ∷ []) a q not_told is-told z)
+      go (inr t) = rw t (is_refused (row 1 refl (not (frags_coherent h samples words)) ∷ []) a q not_told is-told (eqb-false a.number 0 t))

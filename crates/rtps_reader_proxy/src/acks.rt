@@ -3,15 +3,16 @@ ghost use Rattle.std.specs.Prelude.{◌≡◌, refl, not, [], ◌∷◌, length,
 ghost use Rattle.numbers.specs.Promise.{Gives1, Gives2};
 ghost use Rattle.numbers.specs.Refusals.{row, answer_of};
 ghost use Rattle.rtps_reader_proxy.specs.Reader.{staying};
-ghost use Rattle.rtps_reader_proxy.specs.Acks.{ack_nacked_of, ack_nacked_among, ack_rows, ack_leaves, acked_with, Ackable, run_left, Stayable};
+ghost use Rattle.rtps_reader_proxy.specs.Acks.{ack_nacked_of, ack_nacked_among, ack_rows, ack_leaves, Ackable, run_left, Stayable};
 
-use crate::proxy::{ReaderProxy, last_of, room_for};
+use crate::proxy::{ReaderProxy, room_for};
 use joined_runs::join;
 use number_sets::SequenceNumberSet;
 use numbers::answers::{earlier, in_turn};
-use numbers::{Answer, Refusal, SequenceNumber, arith};
+use numbers::{Answer, Refusal, SequenceNumber};
 use rising::room;
 
+// How many numbers found no place, and the proxy as the call leaves it. A C struct, so that the answer stands beside them.
 #[repr(C)]
 #[derive(Clone, Copy)]
 pub struct AckNacked {
@@ -25,15 +26,16 @@ fn stay(unsent: &mut [u64], count: usize, a: u64, base: u64, last: u64) -> usize
     requires { Stayable count unsent.old last }
     ensures { Gives1 result unsent.new (run_left (length (staying last base a (take count unsent.old))) (length unsent.old) (staying last base a (take count unsent.old))) }
 {
-    let b = arith::larger(base, 1);
+    let b = base.max(1);
     if b < a {
         return count;
     }
     let some = room::keep_from(unsent, count, b);
-    if last_of(unsent, some) <= last {
-        return some;
+    // Mostly none is above `last`, and nothing is searched.
+    match unsent[..some].last() {
+        Some(n) if last < *n => room::keep_before(unsent, some, last + 1),
+        _ => some,
     }
-    room::keep_before(unsent, some, last + 1)
 }
 
 // The answer of an acknowledgement: 1, 3, 2, 12 or done.
@@ -58,31 +60,13 @@ impl ReaderProxy {
     ) -> Answer
         ensures { result ≡ answer_of (ack_rows self unsent.now gaps.now set last) }
     {
-        let asked = arith::smaller(set.count as usize, SequenceNumberSet::MOST_MEMBERS);
+        let asked = (set.count as usize).min(SequenceNumberSet::MOST_MEMBERS);
         let fits = room_for(unsent, self.unsent_count, self.unsent_cap, asked);
         let coherent = self.unsent_coherent(unsent) & self.gaps_coherent(gaps);
-        let within = last.within(SequenceNumber::LAST);
-        let end = last.rank();
         let bits = SequenceNumberSet::MOST_BITS < set.count;
-        let range = set.base.is_negative() | !within;
-        let ahead = end + 1 < arith::larger(set.base.rank(), 1);
+        let range = set.base.is_negative() | !last.within(SequenceNumber::LAST);
+        let ahead = last.rank() + 1 < set.base.rank().max(1);
         ack_answer(fits & coherent, bits, range, ahead)
-    }
-
-    // The proxy after an acknowledgement, with what is left out of `total` numbers.
-    fn with_acked(mut self, low: u64, total: usize, kept: usize) -> AckNacked
-        ensures { result ≡ acked_with low total kept self }
-    {
-        let left_out = arith::excess(total, self.unsent_cap);
-        self.all_acked_before = SequenceNumber::from_rank(low);
-        self.unsent_count = total - left_out;
-        self.gap_count = kept;
-        let answer = Answer::done();
-        AckNacked {
-            answer,
-            left_out,
-            proxy: self,
-        }
     }
 
     // An acknowledgement that is not refused.
@@ -98,11 +82,20 @@ impl ReaderProxy {
     {
         let a = self.all_acked_before.rank();
         let base = set.base.rank();
-        let low = arith::larger(a, arith::larger(base, 1));
+        let low = a.max(base.max(1));
         let old = stay(unsent, self.unsent_count, a, base, last);
         let total = join(unsent, old, set, low, last);
-        let kept = room::keep_from(gaps, self.gap_count, low);
-        self.with_acked(low, total, kept)
+        let left_out = total.saturating_sub(self.unsent_cap);
+        AckNacked {
+            answer: Answer::done(),
+            left_out,
+            proxy: ReaderProxy {
+                all_acked_before: SequenceNumber::from_rank(low),
+                unsent_count: total - left_out,
+                gap_count: room::keep_from(gaps, self.gap_count, low),
+                ..self
+            },
+        }
     }
 
     // An ACKNACK is taken, where `last` is the last number written.
@@ -115,15 +108,7 @@ impl ReaderProxy {
     ) -> AckNacked
         ensures { Gives2 result unsent.new gaps.new (ack_nacked_of set last self unsent.old gaps.old) }
     {
-        let answer = self.check_ack(unsent, gaps, set, last);
-        if answer.number != 0 {
-            return AckNacked {
-                answer,
-                left_out: 0,
-                proxy: self,
-            };
-        }
-        self.acknowledged(unsent, gaps, set, last.rank())
+        self.handle_ack_nack_among(unsent, gaps, set, last, Answer::done(), Answer::done())
     }
 
     // The same as one of a step's calls: `beside` is what those are answered that are asked with it, `after` what the one is that comes after them. It is
@@ -140,9 +125,8 @@ impl ReaderProxy {
         ensures { Gives2 result unsent.new gaps.new (ack_nacked_among beside after set last self unsent.old gaps.old) }
     {
         let own = self.check_ack(unsent, gaps, set, last);
-        let all = earlier(own, beside);
-        let answer = in_turn(all, after);
-        if answer.number != 0 {
+        let answer = in_turn(earlier(own, beside), after);
+        if !answer.is_done() {
             return AckNacked {
                 answer,
                 left_out: 0,

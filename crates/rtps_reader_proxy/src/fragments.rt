@@ -3,10 +3,8 @@ ghost use Rattle.std.specs.Prelude.{◌≡◌, refl, [], ◌∷◌, not, ◌&&�
 ghost use Rattle.numbers.specs.Number.{rank_of};
 ghost use Rattle.numbers.specs.Promise.{Gives2};
 ghost use Rattle.numbers.specs.Refusals.{row, answer_of};
-ghost use Rattle.rtps_reader_proxy.specs.Parts.{count_frags};
-ghost use Rattle.rtps_reader_proxy.specs.Fragments.{frags_coherent, cannot_ask, no_slot, frags_requested_of, frag_sent_of, next_frag_of, no_piece, this_piece, repair_of};
-ghost use Rattle.numbers.specs.Answers.{answered};
-ghost use Rattle.rtps_reader_proxy.specs.Record.{room_for, changed};
+ghost use Rattle.rtps_reader_proxy.specs.Fragments.{frags_coherent, cannot_ask, no_slot, frags_requested_of, frag_sent_of, next_frag_of, repair_of};
+ghost use Rattle.rtps_reader_proxy.specs.Record.{room_for};
 
 use crate::proxy::{Changed, ReaderProxy, room_for};
 use number_sets::{FragmentNumberSet, SequenceNumberSet};
@@ -15,9 +13,9 @@ use numbers::{Answer, FragmentCursor, FragmentNumber, Refusal, SequenceNumber};
 use requested_fragments::{ask, table};
 use rising::room;
 
-// A fragment of a sample, and the cursor past it.
+// A fragment of a sample, and the cursor past it. A C struct, so that the answer stands beside what is found.
 #[repr(C)]
-#[derive(Clone, Copy)]
+#[derive(Clone, Copy, Default)]
 pub struct NextFragRequested {
     pub answer: Answer,
     pub sample: SequenceNumber,
@@ -29,34 +27,7 @@ pub struct NextFragRequested {
 fn cannot_ask(n: SequenceNumber, set: FragmentNumberSet) -> bool
     ensures { result ≡ cannot_ask n set }
 {
-    let base = set.base.rank();
-    let sample = n.is_sample();
-    let above = set.reaches(FragmentNumber::PAST);
-    !sample | ((base == 0) | above)
-}
-
-// The answer of a question for the next fragment that found one, or met a row.
-fn next_piece(answer: Answer, n: u64, f: u64) -> NextFragRequested
-    ensures { result ≡ answered answer no_piece (this_piece n f) }
-{
-    if answer.number != 0 {
-        return NextFragRequested {
-            answer,
-            sample: SequenceNumber(0),
-            fragment: FragmentNumber(0),
-            cursor: FragmentCursor { from: 0 },
-        };
-    }
-    let answer = Answer::done();
-    let sample = SequenceNumber::from_rank(n);
-    let fragment = FragmentNumber::from_rank(f);
-    let cursor = FragmentCursor::past(f);
-    NextFragRequested {
-        answer,
-        sample,
-        fragment,
-        cursor,
-    }
+    !n.is_sample() | (set.base.rank() == 0) | set.reaches(FragmentNumber::PAST)
 }
 
 impl ReaderProxy {
@@ -64,9 +35,7 @@ impl ReaderProxy {
     pub fn frags_coherent(self, samples: &[u64], words: &[u64]) -> bool
         ensures { result ≡ frags_coherent self samples.now words.now }
     {
-        let proxy = self.is_coherent();
-        let rooms = table::coherent(samples, words, self.frag_count);
-        proxy & rooms
+        self.is_coherent() & table::coherent(samples, words, self.frag_count)
     }
 
     // The answer of a call that is lent the rooms of the fragments, where `fits` says whether what joins has room: 1, 3, 2, 10 or done.
@@ -93,9 +62,9 @@ impl ReaderProxy {
     fn no_slot(self, samples: &[u64], words: &[u64], n: u64, set: FragmentNumberSet) -> bool
         ensures { result ≡ no_slot n set self samples.now words.now }
     {
-        let size = set.size();
-        let held = room::holds(samples, self.frag_count, n);
-        (ReaderProxy::FRAG_SAMPLES <= self.frag_count) & ((size != 0) & !held)
+        (ReaderProxy::FRAG_SAMPLES <= self.frag_count)
+            & (set.size() != 0)
+            & !room::holds(samples, self.frag_count, n)
     }
 
     // The answer of a request, with nothing changed: 1, 3, 2, 10 or done. A step that can't take it tells it beside its own.
@@ -109,27 +78,10 @@ impl ReaderProxy {
         ensures { result ≡ answer_of (row 1 refl (not (room_for 1 16 self.frag_count samples.now && frags_coherent self samples.now words.now)) ∷ row 3 refl (ltb 256 set.count) ∷ row 2 refl (cannot_ask n set) ∷ row 10 refl (no_slot (rank_of n) set self samples.now words.now) ∷ []) }
     {
         let fits = room_for(samples, self.frag_count, ReaderProxy::FRAG_SAMPLES, 1);
-        let bits = set.count;
+        let bits = SequenceNumberSet::MOST_BITS < set.count;
         let range = cannot_ask(n, set);
         let full = self.no_slot(samples, words, n.rank(), set);
-        self.check_frags(
-            samples,
-            words,
-            fits,
-            SequenceNumberSet::MOST_BITS < bits,
-            range,
-            full,
-        )
-    }
-
-    fn with_frags(mut self, answer: Answer, count: usize) -> Changed
-        ensures { result ≡ changed answer (count_frags count self) }
-    {
-        self.frag_count = count;
-        Changed {
-            answer,
-            proxy: self,
-        }
+        self.check_frags(samples, words, fits, bits, range, full)
     }
 
     // The reader asks for fragments of one sample.
@@ -143,14 +95,14 @@ impl ReaderProxy {
         ensures { Gives2 result samples.new words.new (frags_requested_of n set self samples.old words.old) }
     {
         let answer = self.check_request(samples, words, n, set);
-        if answer.number != 0 {
-            return Changed {
-                answer,
-                proxy: self,
-            };
+        if !answer.is_done() {
+            return self.unchanged(answer);
         }
-        let count = ask::request(samples, words, self.frag_count, n.rank(), set);
-        self.with_frags(answer, count)
+        let frag_count = ask::request(samples, words, self.frag_count, n.rank(), set);
+        Changed {
+            answer,
+            proxy: ReaderProxy { frag_count, ..self },
+        }
     }
 
     // A fragment was sent.
@@ -164,14 +116,14 @@ impl ReaderProxy {
         ensures { Gives2 result samples.new words.new (frag_sent_of n f self samples.old words.old) }
     {
         let answer = self.check_frags(samples, words, true, false, false, false);
-        if answer.number != 0 {
-            return Changed {
-                answer,
-                proxy: self,
-            };
+        if !answer.is_done() {
+            return self.unchanged(answer);
         }
-        let count = table::mark_sent(samples, words, self.frag_count, n.rank(), f.rank());
-        self.with_frags(answer, count)
+        let frag_count = table::mark_sent(samples, words, self.frag_count, n.rank(), f.rank());
+        Changed {
+            answer,
+            proxy: ReaderProxy { frag_count, ..self },
+        }
     }
 
     // The first requested fragment at or after the cursor, of the smallest sample held, and the cursor past it.
@@ -184,12 +136,19 @@ impl ReaderProxy {
         ensures { result ≡ next_frag_of at self samples.now words.now }
     {
         let next = table::next(samples, words, self.frag_count, at.from);
-        let coherent = self.frags_coherent(samples, words);
-        next_piece(
-            Answer::found(coherent, next.none),
-            next.sample,
-            next.fragment,
-        )
+        let answer = Answer::found(self.frags_coherent(samples, words), next.is_none());
+        match next {
+            Some(next) if answer.is_done() => NextFragRequested {
+                answer,
+                sample: SequenceNumber::from_rank(next.sample),
+                fragment: FragmentNumber::from_rank(next.fragment),
+                cursor: FragmentCursor::past(next.fragment),
+            },
+            _ => NextFragRequested {
+                answer,
+                ..NextFragRequested::default()
+            },
+        }
     }
 
     // Whether any fragment is requested.
@@ -197,13 +156,9 @@ impl ReaderProxy {
         ensures { result ≡ repair_of self samples.now words.now }
     {
         let answer = self.check_frags(samples, words, true, false, false, false);
-        if answer.number != 0 {
-            return Told { answer, yes: false };
-        }
-        let count = self.frag_count;
         Told {
             answer,
-            yes: count != 0,
+            yes: answer.is_done() & (self.frag_count != 0),
         }
     }
 }

@@ -1,18 +1,14 @@
 -- `mark_change_sent` meets its contract. Assumes nothing.
-use mathlib.Core.Path.{refl}
-use mathlib.Core.List.{[], ◌∷◌}
-use mathlib.Core.Bool.{true, false}
+use Rattle.std.proofs.Common.{rules, refl, [], ◌∷◌, true, false}
 use Rattle.numbers.specs.Number.{rank_of}
 use Rattle.numbers.specs.Refusals.{row}
-use Rattle.rtps_reader_proxy.proofs.UnsentCalls.{mark-done}
+use Rattle.rtps_reader_proxy.proofs.UnsentCalls.{mark-is}
 use Rattle.rtps_reader_proxy.proofs.proxy.ReaderProxy.mark_change_sent.Goals as goal
 
 pub returns : goal.returns
 returns c =
     let args = c.args in
-    let check-unsent = c.check_unsent-answer in
-    let if1 = c.if-answer-ne0 in
-    let rank = c.rank in
-    let remove = c.remove-count in
-    mark-done args.self args.unsent.now true (row 2 refl false ∷ []) check-unsent.result check-unsent.ensures if1.false (rank_of args.n) remove.result remove.new.s c.with_unsent.result
-    c.with_unsent.ensures (rw (← rank.ensures.is) remove.ensures)
+    let check = c.check_unsent-answer in
+    let change = c.change_unsent in
+    mark-is args.self args.unsent.now true (row 2 refl false ∷ []) check.result check.ensures change.result change.new.unsent change.ensures.refused change.ensures.done
+    (rank_of args.n) (λ n k. search rules)
