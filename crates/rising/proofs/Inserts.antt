@@ -5,11 +5,11 @@ use lib.Seq.{drop-append-le, set_at}
 use borrow.Author.Tests.{lt-leb, eqb-false}
 use Rattle.numbers.specs.Promise.{Gives1}
 use Rattle.sets.specs.Sets.{insert}
-use Rattle.rising.specs.Runs.{place_of, holds_at, cut_out, put_in, removed, from_on, before, insert_within, newest, over, in_room}
+use Rattle.rising.specs.Runs.{place_of, holds_at, put_in, insert_within, newest, over, in_room}
 use Rattle.sets.proofs.Bools.{or_no, neither}
 use Rattle.sets.proofs.Loops.{done}
 use Rattle.rising.proofs.Lists.{dropped}
-use Rattle.rising.proofs.Rooms.{changed, unchanged, alike, back}
+use Rattle.rising.proofs.Rooms.{changed, unchanged, alike}
 
 pub place_le : (n : ℕ) (l : List ℕ) → place_of n l ≤ length l
 place_le n [] = zero-le
@@ -78,20 +78,8 @@ module _ (c n i : ℕ) (a : List ℕ) (e : i ≡ place_of n (take c a)) where
   pub place_in : i ≤ c
   place_in = omega (arith, place_le n (take c a), length-take c a)
 
-  pub from_is : cut_out 0 i (take c a) ≡ from_on n (take c a)
-  from_is = let z : 0 + i ≡ i = omega arith in rw (z, ← e)
-
-  pub before-is : cut_out i c (take c a) ≡ before n (take c a)
-  before-is = rw (done (take c a) (i + c) (omega (arith, length-take c a)), append-nil, ← e)
-
   -- t says whether it is there
   module _ (t : Bool) (p : t ≡ holds_at n (take c a) i) where
-    pub removed-held : t ≡ true → cut_out i 1 (take c a) ≡ removed n (take c a)
-    removed-held q = rw (← e, ← p, q)
-
-    pub removed-none : t ≡ false → Gives1 c a (in_room (removed n) c a)
-    removed-none q = unchanged (removed n) c a (rw (← e, ← p, q))
-
     is_held : t ≡ true → insert n (take c a) ≡ take c a
     is_held q = insert-has n (take c a) (ap (holds_at n (take c a)) (sym e) ∙ sym p ∙ q)
 
@@ -144,19 +132,18 @@ module _ (c n i : ℕ) (a : List ℕ) (e : i ≡ place_of n (take c a)) where
       newest-first z = unchanged (newest (length a) n) c a (one_out ∙ ap (λ (x : ℕ). drop 1 (put_in x n (take c a))) z)
 
       -- those below it move down by one
-      newest-moved : (u : List ℕ) → 0 < i → u ≡ set (back 0 i a (dropped 1 (take (i - 0) (drop 0 a)))) (i - 1) n → Gives1 c u (in_room (newest (length a) n) c a)
+      newest-moved : (u : List ℕ) → 0 < i → u ≡ set (dropped 1 (take i a) ++ drop i a) (i - 1) n → Gives1 c u (in_room (newest (length a) n) c a)
       newest-moved u z w =
           let pi = place_in in
           let al : take c a ≡ a = take_all c a (omega arith) in
-          let i0 : i - 0 ≡ i = omega arith in
           let li : length (take i a) ≡ i = length-take-le i a (omega arith) in
           let m1 : min 1 (length (take i a)) ≡ 1 = omega arith in
           let ld : length (drop 1 (take i a)) ≡ i - 1 = length-drop 1 (take i a) ∙ ap (λ (x : ℕ). x - 1) li in
           let o : newest (length a) n (take c a) ≡ drop 1 (take i a) ++ (n ∷ drop i a) =
           one_out ∙ ap (λ (x : List ℕ). drop 1 (put_in i n x)) al ∙ drop-append-le 1 (take i a) (n ∷ drop i a) (omega arith) in
           let lo : length (drop 1 (take i a) ++ (n ∷ drop i a)) ≡ c = simp (length-append, length-drop) (omega (arith, li, length-drop i a)) in
-          let room : set (back 0 i a (dropped 1 (take (i - 0) (drop 0 a)))) (i - 1) n ≡ drop 1 (take i a) ++ (n ∷ drop i a) =
-          rw (i0, m1, append_assoc (drop 1 (take i a)), set_at (drop 1 (take i a)) 0 (drop i a) n (i - 1) ld) in
+          let room : set (dropped 1 (take i a) ++ drop i a) (i - 1) n ≡ drop 1 (take i a) ++ (n ∷ drop i a) =
+          rw (m1, append_assoc (drop 1 (take i a)), set_at (drop 1 (take i a)) 0 (drop i a) n (i - 1) ld) in
           let nx : drop (max c c) a ≡ [] = done a (max c c) (omega arith) in
           let cc0 : c - c ≡ 0 = omega arith in
           changed (newest (length a) n) c a (omega arith) c u (sym (ap length o ∙ lo)) (w ∙ room ∙ sym (ap (over a c) o ∙ rw (lo, cc0, nx, append-nil)))
@@ -182,9 +169,6 @@ module _ (c n i : ℕ) (a : List ℕ) (f : c ≡ length a) (e : i ≡ place_of n
   is : t ≡ holds_at n (take c a) i
   is = p ∙ ap (λ (x : List ℕ). holds_at n x i) whole
 
-  pub full-place : i ≤ length a
-  full-place = omega (arith, place_le n a)
-
   pub newest-same : (eqb i 0 || t) ≡ true → Gives1 c a (in_room (newest (length a) n) c a)
   newest-same w = go t refl
     where
@@ -192,8 +176,5 @@ module _ (c n i : ℕ) (a : List ℕ) (f : c ≡ length a) (e : i ≡ place_of n
       go true q = newest-held c n i a at t is fits q
       go false q = newest-first c n i a at t is q f (eqb-true i 0 (sym (or_no (eqb i 0)) ∙ ap (λ (x : Bool). eqb i 0 || x) (sym q) ∙ w))
 
-  pub newest_other : (eqb i 0 || t) ≡ false → (u : List ℕ) → u ≡ set (back 0 i a (dropped 1 (take (i - 0) (drop 0 a)))) (i - 1) n → Gives1 c u (in_room (newest (length a) n) c a)
+  pub newest_other : (eqb i 0 || t) ≡ false → (u : List ℕ) → u ≡ set (dropped 1 (take i a) ++ drop i a) (i - 1) n → Gives1 c u (in_room (newest (length a) n) c a)
   newest_other w u k = newest-moved c n i a at t is (neither (eqb i 0) t w).1 f u (omega (arith, eqb-false i 0 (neither (eqb i 0) t w).0)) k
-
-  pub full-some : (eqb i 0 || t) ≡ false → 0 < i
-  full-some w = omega (arith, eqb-false i 0 (neither (eqb i 0) t w).0)

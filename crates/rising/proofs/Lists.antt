@@ -37,19 +37,11 @@ dropped-done k st s m z a b e f =
     let w : drop (length m - st) (drop st m) ≡ [] = done (drop st m) (length m - st) (rw length-drop (omega arith)) in
     rw (x, f, y, w, append-nil)
 
-pub dropped-none : (k : ℕ) (s : List ℕ) → k ≡ 0 → s ≡ dropped k s
-dropped-none k s e =
-    let z : min 0 (length s) ≡ 0 = omega arith in
-    rw (e, z, append-nil)
-
 -- ---- a loop that writes a slice from the back: at turn i it holds `downto t s i`
 abbrev pub downto : List ℕ → List ℕ → ℕ → List ℕ
 downto t s i = take i s ++ drop i t
 
 module _ (t s : List ℕ) (same : length t ≡ length s) where
-  pub downto_length : (i : ℕ) → i ≤ length s → length (downto t s i) ≡ length s
-  downto_length i h = simp (length-append, length-take, length-drop) (omega arith)
-
   -- one store more
   pub downto_more : (i v : ℕ) → i < length s → v ≡ get_or t i 0 → set (downto t s (i + 1)) i v ≡ downto t s i
   downto_more i v h e =
@@ -79,22 +71,14 @@ past : (i : ℕ) (l r : List ℕ) → length l ≡ i → drop i (l ++ r) ≡ r
 past i l r e = ap (λ (n : ℕ). drop n (l ++ r)) (sym e) ∙ drop-append_seam l r
 
 -- the numbers that stay are moved, and what is before them is cleared
-pub lifted_done : (k i : ℕ) (s m z : List ℕ) → i ≡ min k (length s) → length m ≡ length s → m ≡ downto (lifted k s) s i → z ≡ replicate (length (take (i - 0) (drop 0 m))) 0
-    → take 0 m ++ (z ++ drop (i - 0) (drop 0 m)) ≡ lifted k s
+pub lifted_done : (k i : ℕ) (s m z : List ℕ) → i ≡ min k (length s) → length m ≡ length s → m ≡ downto (lifted k s) s i → z ≡ replicate (length (take i m)) 0 → z ++ drop i m ≡ lifted k s
 lifted_done k i s m z a b e f =
-    let o : i - 0 ≡ i = omega arith in
     let lm : length (take i m) ≡ i = length-take-le i m (omega arith) in
     let lt : length (take i s) ≡ i = length-take-le i s (omega arith) in
     let lr : length (replicate {A = ℕ} (min k (length s)) 0) ≡ i = length-replicate (min k (length s)) 0 ∙ sym a in
     let x : drop i m ≡ take (length s - k) s = ap (drop i) e ∙ past i (take i s) (drop i (lifted k s)) lt ∙ past i (replicate (min k (length s)) 0) (take (length s - k) s) lr in
-    let y : z ≡ replicate (min k (length s)) 0 = f ∙ ap (λ (n : ℕ). replicate (length (take n m)) 0) o ∙ ap (λ (n : ℕ). replicate n 0) (lm ∙ a) in
-    rw (y, o, x)
-
-pub lifted_none : (k : ℕ) (s : List ℕ) → k ≡ 0 → s ≡ lifted k s
-lifted_none k s e =
-    let z : min 0 (length s) ≡ 0 = omega arith in
-    let f : length s - 0 ≡ length s = omega arith in
-    rw (e, z, f) (sym (take_all (length s) s (omega arith)))
+    let y : z ≡ replicate (min k (length s)) 0 = f ∙ ap (λ (n : ℕ). replicate n 0) (lm ∙ a) in
+    rw (y, x)
 
 pub downto_none : (t s : List ℕ) → length t ≡ length s → s ≡ downto t s (length s)
 downto_none t s same = let q : length t ≤ length s = omega arith in rw (done t (length s) q, take_all (length s) s (omega arith), append-nil)

@@ -1,10 +1,10 @@
 -- The room, when a run in it has changed. Assumes nothing.
-use Rattle.std.proofs.Common.{◌≡◌, ℕ, zero, suc, ◌+◌, ◌-◌, ◌<◌, ◌≤◌, min, max, Bool, true, false, leb, List, [], ◌∷◌, ◌++◌, length, take, drop, set, replicate, sym, refl, ap, ◌∙◌, subst, append_assoc, append-nil, arith, length-append, length-drop, take-append-drop, length-take, length-take-le, take_all, take-take, drop-drop, le-leb, leb-false, leb-true}
+use Rattle.std.proofs.Common.{◌≡◌, ℕ, zero, suc, ◌+◌, ◌-◌, ◌<◌, ◌≤◌, min, max, Bool, true, false, leb, List, [], ◌∷◌, ◌++◌, length, take, drop, replicate, sym, refl, ap, ◌∙◌, subst, append_assoc, append-nil, arith, length-append, length-drop, take-append-drop, length-take, length-take-le, take_all, take-take, drop-drop, le-leb, leb-false, leb-true}
 use lib.ListN.{length-replicate}
-use lib.Seq.{take-nil, set_at, take-append-add}
+use lib.Seq.{take-nil, take-append-add}
 use borrow.Author.Tests.{lt-leb}
 use Rattle.numbers.specs.Promise.{Gives1}
-use Rattle.rising.specs.Runs.{over, in_room, cut_out, put_in, opened, opened_within}
+use Rattle.rising.specs.Runs.{over, in_room, cut_out, opened, opened_within}
 use Rattle.sets.proofs.Loops.{done}
 use Rattle.rising.proofs.Lists.{dropped, lifted}
 
@@ -99,9 +99,6 @@ cut_most i k gone l e = go (leb k (length l - i)) refl
         done l (i + gone) (omega arith) ∙ sym (done l (i + k) (omega arith))
 
 module _ (i k c : ℕ) (a : List ℕ) (h : c ≤ length a) where
-  pub cut_none : c ≤ i → Gives1 c a (in_room (cut_out i k) c a)
-  cut_none q = unchanged (cut_out i k) c a (cut_past i k (take c a) (omega (arith, length-take-le c a h)))
-
   pub cut_some : (gone : ℕ) (u : List ℕ) → i < c → gone ≡ min k (c - i) → u ≡ back i c a (dropped gone (take (c - i) (drop i a))) → Gives1 (c - gone) u (in_room (cut_out i k) c a)
   cut_some gone u q e w =
       let l = length-take-le c a h in
@@ -188,16 +185,3 @@ module _ (i k c : ℕ) (a : List ℕ) (h : c ≤ length a) (at end : ℕ) (u : L
           changed (opened_within (length a) i k) c a h end u
           (ee ∙ sym lo ∙ ap length within)
           (w ∙ ap (λ (x : ℕ). back at x a (lifted k (take (x - at) (drop at a)))) ee ∙ room_end at k c a (omega arith) h (omega arith) ∙ ap (over a c) within)
-
--- one number put in: opened by one, and written
-pub put-done : (i c n : ℕ) (a : List ℕ) → i ≤ c → c < length a → (end : ℕ) (u : List ℕ) → Gives1 end u (in_room (opened_within (length a) i 1) c a)
-    → (end ≡ c + 1) × (set u i n ≡ over a c (put_in i n (take c a)))
-put-done i c n a h r end u g =
-    let lc = length-take-le c a (omega arith) in
-    let lo : length (opened i 1 (take c a)) ≡ c + 1 = opened-length i 1 (take c a) (omega arith) ∙ ap (λ (y : ℕ). y + 1) lc in
-    let al : opened_within (length a) i 1 (take c a) ≡ opened i 1 (take c a) = take_all (length a) (opened i 1 (take c a)) (omega arith) in
-    let q : Gives1 end u (record { result = length (opened i 1 (take c a)); first = over a c (opened i 1 (take c a)) }) = rw (le-leb c (length a) (omega arith), al) at g in
-    let li : length (take i (take c a)) ≡ i = length-take-le i (take c a) (omega arith) in
-    let ln : length (put_in i n (take c a)) ≡ length (opened i 1 (take c a)) =
-    length-append (take i (take c a)) (n ∷ drop i (take c a)) ∙ sym (length-append (take i (take c a)) (0 ∷ drop i (take c a))) in
-    (q.result ∙ lo, rw (q.first, ln, append_assoc (take i (take c a)), append_assoc (take i (take c a)), set_at (take i (take c a)) 0 _ n i li))

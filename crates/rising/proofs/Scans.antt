@@ -1,12 +1,13 @@
 -- The scans: what is left to read, from i on. Assumes nothing.
-use Rattle.std.proofs.Common.{◌≡◌, ℕ, zero, suc, ◌+◌, ◌-◌, ◌*◌, ◌%◌, ◌^◌, ◌<◌, ◌≤◌, min, Bool, true, false, ◌&&◌, ◌||◌, eqb, ltb, leb, ◌⊎◌, List, [], ◌∷◌, length, get_or, take, drop, sym, refl, ap, ◌∙◌, ap₂, inl, inr, arith, length-drop, take_all, ltb-false, ltb-true, le-ltb, lt-ltb, eq-eqb, ne_eqb, eqb-true, le-leb, leb-false, leb-true}
+use Rattle.std.proofs.Common.{Some, ◌≡◌, ℕ, zero, suc, ◌+◌, ◌-◌, ◌*◌, ◌%◌, ◌^◌, ◌<◌, ◌≤◌, min, Bool, true, false, ◌&&◌, ◌||◌, eqb, ltb, leb, ◌⊎◌, List, [], ◌∷◌, length, get_or, take, drop, sym, refl, ap, ◌∙◌, ap₂, inl, inr, arith, take_all, ltb-false, ltb-true, le-ltb, lt-ltb, eq-eqb, ne_eqb, eqb-true, le-leb, leb-false, leb-true}
 use lib.Bits.{bit_or, bit_and, or_add_and, or_lt, and_block, and_le_l, and_le_r}
 use borrow.Author.Tests.{eqb-false, lt-leb}
-use Rattle.sets.specs.Sets.{has}
-use Rattle.sets.proofs.Bools.{decide, or_assoc, and_assoc, and_yes, and_no, and_left}
+use Rattle.std.specs.List.{fold, slice_get}
+use Rattle.std.proofs.lemmas.Option.{slice_get_within, get_or_from_slice_get}
+use Rattle.sets.proofs.Bools.{decide, and_assoc, and_yes, and_no, and_left}
 use Rattle.numbers.specs.Capacities.{top_number}
-use Rattle.rising.specs.Runs.{rises_above, zeros, run_coherent, place_of, holds_at}
-use Rattle.sets.proofs.Loops.{here, done}
+use Rattle.rising.specs.Runs.{rises_above, zeros, holds_at}
+use Rattle.sets.proofs.Loops.{here}
 
 or_zero : (a b : ℕ) → eqb (bit_or a b) 0 ≡ (eqb a 0 && eqb b 0)
 or_zero a b = go (decide (eqb a 0)) (decide (eqb b 0))
@@ -16,13 +17,13 @@ or_zero a b = go (decide (eqb a 0)) (decide (eqb b 0))
     go (inl p) (inr q) = rw (p, q) (ne_eqb (bit_or a b) 0 (λ e. eqb-false b 0 q (omega (arith, e, or_add_and a b, and_le_l a b))))
     go (inr p) q = rw p (ne_eqb (bit_or a b) 0 (λ e. eqb-false a 0 p (omega (arith, e, or_add_and a b, and_le_r a b))))
 
-pub zeros_more : (s : List ℕ) (i acc : ℕ) → i < length s → zeros s ≡ (eqb acc 0 && zeros (drop i s)) → zeros s ≡ (eqb (bit_or acc (get_or s i 0)) 0 && zeros (drop (i + 1) s))
-zeros_more s i acc h e =
-    e ∙ ap (λ (l : List ℕ). eqb acc 0 && zeros l) (here s i h) ∙ sym (and_assoc (eqb acc 0) (eqb (get_or s i 0) 0) (zeros (drop (i + 1) s)))
-    ∙ ap (λ (b : Bool). b && zeros (drop (i + 1) s)) (sym (or_zero acc (get_or s i 0)))
+-- all or-ed, from a on
+fold_or : (s : List ℕ) (a : ℕ) → eqb (fold bit_or a s) 0 ≡ (eqb a 0 && zeros s)
+fold_or [] a = sym (and_yes (eqb a 0))
+fold_or (x ∷ xs) a = fold_or xs (bit_or a x) ∙ ap (λ (t : Bool). t && zeros xs) (or_zero a x) ∙ and_assoc (eqb a 0) (eqb x 0) (zeros xs)
 
-pub zeros_end : (s : List ℕ) (i acc : ℕ) → length s ≤ i → zeros s ≡ (eqb acc 0 && zeros (drop i s)) → eqb acc 0 ≡ zeros s
-zeros_end s i acc h e = sym (e ∙ ap (λ (l : List ℕ). eqb acc 0 && zeros l) (done s i h) ∙ and_yes (eqb acc 0))
+pub fold_zeros : (s : List ℕ) → eqb (fold bit_or 0 s) 0 ≡ zeros s
+fold_zeros s = fold_or s 0
 
 and_mix : (a b c d : Bool) → ((a && b) && (c && d)) ≡ ((a && c) && (b && d))
 and_mix true true c d = refl
@@ -93,10 +94,6 @@ module _ (high up a b r : ℕ) (m : up < 18446744073709551616) (n : r < 18446744
           rw (p, and_yes (ltb a b), and_yes (climbs (bit_or high a) (bit_and up r))) (sym (one_step s))
       go (inr p) = rw (p, and_no (ltb a b), and_no (leb a top_number), and_no (climbs high up), and_no (climbs (bit_or high a) (bit_and up r)))
 
-pub rises-none : (p : ℕ) (s : List ℕ) → length s ≡ 0 → true ≡ rises_above p s
-rises-none p [] e = refl
-rises-none p (x ∷ xs) e = absurd (omega arith)
-
 pub rises-first : (p : ℕ) (s : List ℕ) → 0 < length s → rises_above p s ≡ (ltb p (get_or s 0 0) && rest (get_or s 0 0) (drop 1 s))
 rises-first p [] h = absurd (omega arith)
 rises-first p (x ∷ xs) h = refl
@@ -109,7 +106,7 @@ rises_more s i high up r q t o h m n w e =
     rw z (e ∙ ap (λ (x : Bool). t && x) (ap (λ (l : List ℕ). climbs high up && rest (get_or s (i - 1) 0) l) (here s i h) ∙ steps high up (get_or s (i - 1) 0) (get_or s i 0) r m n w (drop (i + 1) s)))
 
 -- the first isn't above p, or the last is no sample number: then they don't rise. Else it goes by the steps between
-pub rises_not : (p : ℕ) (s : List ℕ) → 0 < length s → get_or s 0 0 ≤ p → false ≡ rises_above p s
+rises_not : (p : ℕ) (s : List ℕ) → 0 < length s → get_or s 0 0 ≤ p → false ≡ rises_above p s
 rises_not p s h k = sym (rises-first p s h ∙ ap (λ (t : Bool). t && rest (get_or s 0 0) (drop 1 s)) (le-ltb p (get_or s 0 0) k))
 
 past : (p k : ℕ) (s : List ℕ) → length s ≡ suc k → top_number < get_or s k 0 → false ≡ rises_above p s
@@ -117,32 +114,22 @@ past p k [] e h = absurd (omega arith)
 past p zero (x ∷ xs) e h = rw (lt-leb x top_number h) (sym (and_no (ltb p x)))
 past p (suc k) (x ∷ xs) e h = rw (← (past x k xs (omega arith) h), and_no (leb x top_number), and_no (ltb p x))
 
-pub rises-past : (p : ℕ) (s : List ℕ) → 0 < length s → top_number < get_or s (length s - 1) 0 → false ≡ rises_above p s
+rises-past : (p : ℕ) (s : List ℕ) → 0 < length s → top_number < get_or s (length s - 1) 0 → false ≡ rises_above p s
 rises-past p s h k = past p (length s - 1) s (omega arith) k
 
-pub rises_end : (p : ℕ) (s : List ℕ) (i high up : ℕ) → p < get_or s 0 0 → get_or s (length s - 1) 0 ≤ top_number → 1 ≤ i → i ≤ length s → length s ≤ i
-    → rises_above p s ≡ (ltb p (get_or s 0 0) && (climbs high up && rest (get_or s (i - 1) 0) (drop i s))) → climbs high up ≡ rises_above p s
-rises_end p s i high up f l o k h e =
-    let z : i ≡ length s = omega arith in
-    sym (e ∙ rw (lt-ltb p (get_or s 0 0) f, done s i h, z, le-leb (get_or s (length s - 1) 0) top_number l) (and_yes (climbs high up)))
+pub rises_off : (p : ℕ) (s : List ℕ) (x y : ℕ) → Some x ≡ slice_get s 0 → Some y ≡ slice_get s (length s - 1) → (leb x p || ltb top_number y) ≡ true → false ≡ rises_above p s
+rises_off p s x y f l h = go (leb x p) refl h
+  where
+    long : 0 < length s
+    long = slice_get_within s 0 x (sym f)
 
--- the check of a room
-pub run_short : (p count : ℕ) (s : List ℕ) → length s < count → false ≡ run_coherent p count s
-run_short p count s h = rw (lt-leb count (length s) h)
+    go : (t : Bool) → leb x p ≡ t → (t || ltb top_number y) ≡ true → false ≡ rises_above p s
+    go true e h = rises_not p s long (omega (arith, leb-true x p e, get_or_from_slice_get s 0 x 0 (sym f)))
+    go false e h = rises-past p s long (omega (arith, ltb-true top_number y h, get_or_from_slice_get s (length s - 1) y 0 (sym l)))
 
-module _ (p count : ℕ) (s : List ℕ) (good : Bool) (h : count ≤ length s) (e : good ≡ rises_above p (take count s)) where
-  pub run_not : good ≡ false → false ≡ run_coherent p count s
-  run_not f = rw (le-leb count (length s) h, ← e, f)
-
-  pub run_whole : good ≡ true → (clear : Bool) → clear ≡ zeros (take (length s - count) (drop count s)) → clear ≡ run_coherent p count s
-  run_whole f clear g = rw (le-leb count (length s) h, ← e, f) (g ∙ ap zeros (take_all (length s - count) (drop count s) (omega (arith, length-drop count s))))
-
--- the place of n
-pub place_hit : (s : List ℕ) (n i : ℕ) → i < length s → n ≤ get_or s i 0 → place_of n (drop i s) ≡ 0
-place_hit s n i h l = rw (here s i h, le-leb n (get_or s i 0) l)
-
-pub place_miss : (s : List ℕ) (n i j : ℕ) → i < length s → get_or s i 0 < n → j ≡ i + 1 → place_of n (drop i s) ≡ 1 + place_of n (drop j s)
-place_miss s n i j h l e = rw (e, here s i h, lt-leb n (get_or s i 0) l) (omega arith)
+-- a difference that wraps
+pub wrapped : (a b : ℕ) → a < 2 ^ 64 → b < 2 ^ 64 → (((a + (18446744073709551616 - b)) % 18446744073709551616 + b) % 2 ^ 64 ≡ a) × ((a + (18446744073709551616 - b)) % 18446744073709551616 < 18446744073709551616)
+wrapped a b h k = (omega arith, omega arith)
 
 -- whether n stands at i
 pub holds_in_lem : (n : ℕ) (l : List ℕ) (i : ℕ) → i < length l → eqb (get_or l i 0) n ≡ holds_at n l i
@@ -155,23 +142,9 @@ holds_out n [] i h = refl
 holds_out n (m ∷ ms) zero h = absurd (omega arith)
 holds_out n (m ∷ ms) (suc i) h = holds_out n ms i (omega arith)
 
--- whether n is among them
-pub has_more : (s : List ℕ) (n i : ℕ) (found : Bool) → i < length s → has s n ≡ (found || has (drop i s) n) → has s n ≡ ((found || eqb (get_or s i 0) n) || has (drop (i + 1) s) n)
-has_more s n i found h e = e ∙ ap (λ (l : List ℕ). found || has l n) (here s i h) ∙ sym (or_assoc found (eqb (get_or s i 0) n) (has (drop (i + 1) s) n))
-
-pub has_end : (s : List ℕ) (n i : ℕ) (found : Bool) → length s ≤ i → has s n ≡ (found || has (drop i s) n) → found ≡ has s n
-has_end s n i found h e = sym (e ∙ ap (λ (l : List ℕ). found || has l n) (done s i h) ∙ or_none_lem found)
-  where
-    or_none_lem : (b : Bool) → (b || false) ≡ b
-    or_none_lem true = refl
-    or_none_lem false = refl
-
 pub take_min : (c : ℕ) (s : List ℕ) → take (min c (length s)) s ≡ take c s
 take_min c s = go (leb c (length s)) refl
   where
     go : (t : Bool) → leb c (length s) ≡ t → take (min c (length s)) s ≡ take c s
     go true e = let w = leb-true c (length s) e in let z : min c (length s) ≡ c = omega arith in ap (λ (k : ℕ). take k s) z
     go false e = let w = leb-false c (length s) e in take_all (min c (length s)) s (omega arith) ∙ sym (take_all c s (omega arith))
-
-pub take_within : (c : ℕ) (a : List ℕ) (e : ℕ) → e ≡ min c (length a) → take e a ≡ take c a
-take_within c a e h = ap (λ (k : ℕ). take k a) h ∙ take_min c a

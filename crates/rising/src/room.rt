@@ -6,37 +6,26 @@ ghost use Rattle.numbers.specs.Promise.{Gives1};
 ghost use Rattle.rising.specs.Runs.{place_of, holds_at, in_room, cut_out, opened_within, put_in, over, removed, from_on, before, insert_within, newest, run_with};
 
 use crate::run;
-use numbers::arith::smaller;
+
+// The run.
+fn held(s: &[u64], count: usize) -> &[u64]
+    ensures { result.now ≡ take count s.now }
+{
+    &s[..count.min(s.len())]
+}
 
 // Whether n is in the run.
 pub fn holds(s: &[u64], count: usize, n: u64) -> bool
     ensures { result ≡ has (take count s.now) n }
 {
-    let end = smaller(count, s.len());
-    run::contains(&s[..end], n)
-}
-
-// The place of n in the run.
-fn place_within(s: &[u64], count: usize, n: u64) -> usize
-    ensures { result ≡ place_of n (take count s.now) }
-{
-    let end = smaller(count, s.len());
-    run::place(&s[..end], n)
-}
-
-// Whether n stands at place i of the run.
-fn held_at(s: &[u64], count: usize, i: usize, n: u64) -> bool
-    ensures { result ≡ holds_at n (take count s.now) i }
-{
-    let end = smaller(count, s.len());
-    run::holds_at(&s[..end], i, n)
+    run::contains(held(s, count), n)
 }
 
 // The first number of the run from n on, if there is one.
 pub fn first_from(s: &[u64], count: usize, n: u64) -> Option<u64>
     ensures { result ≡ slice_get (from_on n (take count s.now)) 0 }
 {
-    let held = &s[..count.min(s.len())];
+    let held = held(s, count);
     held.get(run::place(held, n)).copied()
 }
 
@@ -44,13 +33,10 @@ pub fn first_from(s: &[u64], count: usize, n: u64) -> Option<u64>
 pub fn cut(s: &mut [u64], count: usize, i: usize, k: usize) -> usize
     ensures { Gives1 result s.new (in_room (cut_out i k) count s.old) }
 {
-    if s.len() < count {
+    if (s.len() < count) | (count <= i) {
         return count;
     }
-    if count <= i {
-        return count;
-    }
-    let gone = smaller(k, count - i);
+    let gone = k.min(count - i);
     run::drop_front(&mut s[i..count], gone);
     count - gone
 }
@@ -62,8 +48,8 @@ pub fn open(s: &mut [u64], count: usize, i: usize, k: usize) -> usize
     if s.len() < count {
         return count;
     }
-    let at = smaller(i, count);
-    let end = count + smaller(k, s.len() - count);
+    let at = i.min(count);
+    let end = count + k.min(s.len() - count);
     run::lift(&mut s[at..end], k);
     end
 }
@@ -72,18 +58,20 @@ pub fn open(s: &mut [u64], count: usize, i: usize, k: usize) -> usize
 pub fn remove(s: &mut [u64], count: usize, n: u64) -> usize
     ensures { Gives1 result s.new (in_room (removed n) count s.old) }
 {
-    let i = place_within(s, count, n);
-    if held_at(s, count, i, n) {
-        return cut(s, count, i, 1);
+    let held = held(s, count);
+    let i = run::place(held, n);
+    if run::holds_at(held, i, n) {
+        cut(s, count, i, 1)
+    } else {
+        count
     }
-    count
 }
 
 // The run from n on.
 pub fn keep_from(s: &mut [u64], count: usize, n: u64) -> usize
     ensures { Gives1 result s.new (in_room (from_on n) count s.old) }
 {
-    let k = place_within(s, count, n);
+    let k = run::place(held(s, count), n);
     cut(s, count, 0, k)
 }
 
@@ -91,7 +79,7 @@ pub fn keep_from(s: &mut [u64], count: usize, n: u64) -> usize
 pub fn keep_before(s: &mut [u64], count: usize, n: u64) -> usize
     ensures { Gives1 result s.new (in_room (before n) count s.old) }
 {
-    let i = place_within(s, count, n);
+    let i = run::place(held(s, count), n);
     cut(s, count, i, count)
 }
 
@@ -109,17 +97,19 @@ fn put(s: &mut [u64], count: usize, i: usize, n: u64) -> usize
 pub fn insert(s: &mut [u64], count: usize, n: u64) -> usize
     ensures { Gives1 result s.new (in_room (insert_within (length s.old) n) count s.old) }
 {
-    let i = place_within(s, count, n);
-    if held_at(s, count, i, n) {
-        return count;
+    let held = held(s, count);
+    let i = run::place(held, n);
+    if run::holds_at(held, i, n) {
+        count
+    } else if count < s.len() {
+        put(s, count, i, n)
+    } else {
+        count
     }
-    if count < s.len() {
-        return put(s, count, i, n);
-    }
-    count
 }
 
 // n joins the run. Where there is no room the smallest goes.
+#[tactic(auto, using(crate::proofs::Inserts::place_le))]
 pub fn insert_newest(s: &mut [u64], count: usize, n: u64) -> usize
     ensures { Gives1 result s.new (in_room (newest (length s.old) n) count s.old) }
 {
@@ -130,11 +120,10 @@ pub fn insert_newest(s: &mut [u64], count: usize, n: u64) -> usize
         return count;
     }
     let i = run::place(s, n);
-    let held = run::holds_at(s, i, n);
-    if (i == 0) | held {
+    if (i == 0) | run::holds_at(s, i, n) {
         return count;
     }
-    run::drop_front(&mut s[0..i], 1);
+    run::drop_front(&mut s[..i], 1);
     s[i - 1] = n;
     count
 }

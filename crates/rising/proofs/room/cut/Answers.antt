@@ -1,13 +1,13 @@
 -- `cut` meets its contract. Assumes nothing.
-use Rattle.std.proofs.Common.{ap}
+use Rattle.std.proofs.Common.{ap, ltb-false}
+use borrow.Author.Tests.{leb-false}
+use Rattle.sets.proofs.Bools.{neither}
 use Rattle.rising.proofs.Rooms.{back, cut_some}
 use Rattle.rising.proofs.room.cut.Goals as goal
 
 pub returns : goal.returns
 returns c =
     let args = c.args in
-    let if1 = c.if-s-count in
-    let if2 = c.if-count-i in
-    let smaller = c.smaller-gone in
-    let drop-front = c.drop_front in
-    cut_some args.i args.k args.count args.s.now if1.false smaller.result _ if2.false smaller.ensures (ap (back args.i args.count args.s.now) drop-front.ensures)
+    let some = neither _ _ c.if-s-count.false in
+    let gone = c.min-gone in
+    cut_some args.i args.k args.count args.s.now (ltb-false _ _ some.0) gone.result _ (leb-false _ _ some.1) gone.ensures (ap (back args.i args.count args.s.now) c.drop_front.ensures)

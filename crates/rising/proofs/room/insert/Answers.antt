@@ -1,34 +1,34 @@
 -- `insert` meets its contract. Assumes nothing.
-use Rattle.std.proofs.Common.{rules}
+use Rattle.std.proofs.Common.{ℕ, List, ap, ◌∙◌, rules}
+use Rattle.rising.specs.Runs.{place_of, holds_at}
 use Rattle.rising.proofs.Inserts.{place_in, insert-held, insert-full, insert-put}
 use Rattle.rising.proofs.room.insert.Goals as goal
 
-pub returns-then-held_at : goal.returns-then-held_at
-returns-then-held_at c =
-    let args = c.args in
-    let place-within = c.place_within-i in
-    let held_at = c.held_at in
-    insert-held args.count args.n place-within.result args.s.now place-within.ensures held_at.result held_at.ensures c.if-held_at.true
+pub returns-then-holds_at : goal.returns-then-holds_at
+returns-then-holds_at c =
+    let a = c.args in
+    let i = c.place-i.result in
+    let at = c.place-i.ensures ∙ ap (place_of a.n) c.held-held.ensures in
+    let is = c.holds_at.ensures ∙ ap (λ (l : List ℕ). holds_at a.n l i) c.held-held.ensures in
+    insert-held a.count a.n i a.s.now at c.holds_at.result is c.if-holds_at.true
 
 pub put-requires : goal.put-requires
 put-requires c =
-    let args = c.args in
-    let place-within = c.place_within-i in
-    (place_in args.count args.n place-within.result args.s.now place-within.ensures, search rules)
+    let a = c.args in
+    (place_in a.count a.n c.place-i.result a.s.now (c.place-i.ensures ∙ ap (place_of a.n) c.held-held.ensures), search rules)
 
 pub returns-then-count-s : goal.returns-then-count-s
 returns-then-count-s c =
-    let args = c.args in
-    let place-within = c.place_within-i in
-    let held_at = c.held_at in
-    let if1 = c.if-held_at in
-    let if2 = c.if-count-s in
-    let put = c.put in
-    insert-put args.count args.n place-within.result args.s.now place-within.ensures held_at.result held_at.ensures put.result put.new.s put.ensures if1.false if2.true
+    let a = c.args in
+    let i = c.place-i.result in
+    let at = c.place-i.ensures ∙ ap (place_of a.n) c.held-held.ensures in
+    let is = c.holds_at.ensures ∙ ap (λ (l : List ℕ). holds_at a.n l i) c.held-held.ensures in
+    insert-put a.count a.n i a.s.now at c.holds_at.result is c.put.result c.put.new.s c.put.ensures c.if-holds_at.false c.if-count-s.true
 
-pub returns : goal.returns
-returns c =
-    let args = c.args in
-    let place-within = c.place_within-i in
-    let held_at = c.held_at in
-    insert-full args.count args.n place-within.result args.s.now place-within.ensures held_at.result held_at.ensures c.if-held_at.false c.if-count-s.false
+pub returns-else-count-s : goal.returns-else-count-s
+returns-else-count-s c =
+    let a = c.args in
+    let i = c.place-i.result in
+    let at = c.place-i.ensures ∙ ap (place_of a.n) c.held-held.ensures in
+    let is = c.holds_at.ensures ∙ ap (λ (l : List ℕ). holds_at a.n l i) c.held-held.ensures in
+    insert-full a.count a.n i a.s.now at c.holds_at.result is c.if-holds_at.false c.if-count-s.false

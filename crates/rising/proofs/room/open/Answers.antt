@@ -7,8 +7,8 @@ pub returns : goal.returns
 returns c =
     let args = c.args in
     let if1 = c.if-s-count in
-    let smaller = c.smaller-at in
-    let smaller2 = c.smaller in
+    let smaller = c.min-at in
+    let smaller2 = c.min in
     let lift = c.lift in
     open_done args.i args.k args.count args.s.now if1.false smaller.result (args.count + smaller2.result) _ smaller.ensures (ap (λ (x : ℕ). args.count + x) smaller2.ensures)
     (ap (back smaller.result (args.count + smaller2.result) args.s.now) lift.ensures)

@@ -3,7 +3,4 @@ use Rattle.rising.proofs.Lists.{downto, lifted}
 use Rattle.rising.proofs.run.lift.Given as goal
 
 abbrev pub invariant-loop-i : goal.invariant-loop-i
-invariant-loop-i l = (l.i ≤ length l.initial.s) × (min l.k (length l.initial.s) ≤ l.i) × (length l.s ≡ length l.initial.s) × (l.s ≡ downto (lifted l.k l.initial.s) l.initial.s l.i)
-
-abbrev pub decreases-loop-i : goal.decreases-loop-i
-decreases-loop-i l = l.i
+invariant-loop-i l = (min l.k (length l.initial.s) ≤ l.i) × (l.s ≡ downto (lifted l.k l.initial.s) l.initial.s l.i)
