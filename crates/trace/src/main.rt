@@ -1,36 +1,16 @@
 // The trace program: lines from standard input, one answer line for each on standard output. With --explain the answers are in words.
 #![tactic(auto)]
 
-ghost use Rattle.std.specs.Prelude.{◌≡◌, ◌≤◌, length};
+ghost use Rattle.std.specs.Prelude.{◌≤◌, length};
 
-use numbers::arith::smaller;
 use std::env::{Env, FillError};
+use std::io;
 use std::io::{Input, Read};
-use trace_answers::Answering;
+use trace_answers::{Answering, figures};
 use trace_words::put_explained;
 
-// What goes on from turn to turn: how the answering stands, how many bytes the piece has, whether there may be more to read, and whether the
-// answers couldn't be written.
-#[derive(Clone, Copy)]
-struct Run {
-    answering: Answering,
-    bytes: usize,
-    reading: bool,
-    failed: bool,
-}
-
-// How many bytes the next piece has, and whether there may be more to read.
-#[derive(Clone, Copy)]
-struct Filled {
-    bytes: usize,
-    reading: bool,
-}
-
 // A read that fails is told, and ends the input.
-fn read_piece(rt: &(impl Input + Eprint), reading: bool, piece: &mut [u8]) -> usize {
-    if !reading {
-        return 0;
-    }
+fn read_piece(rt: &(impl Input + Eprint), piece: &mut [u8]) -> usize {
     match rt.reader().read(piece) {
         Ok(bytes) => bytes,
         Err(why) => {
@@ -42,124 +22,76 @@ fn read_piece(rt: &(impl Input + Eprint), reading: bool, piece: &mut [u8]) -> us
 
 // The input's end ends a line that has begun.
 fn end_line(open: bool, piece: &mut [u8]) -> usize {
-    if open {
-        if 0 < piece.len() {
-            piece[0] = 10;
-            return 1;
+    match piece.first_mut() {
+        Some(first) if open => {
+            *first = b'\n';
+            1
         }
-    }
-    0
-}
-
-fn next_piece(rt: &(impl Input + Eprint), reading: bool, open: bool, piece: &mut [u8]) -> Filled {
-    let bytes = read_piece(rt, reading, piece);
-    if 0 < bytes {
-        return Filled {
-            bytes,
-            reading: true,
-        };
-    }
-    Filled {
-        bytes: end_line(open, piece),
-        reading: false,
+        _ => 0,
     }
 }
 
-fn write_out(rt: &impl Print, out: &[u8], filled: usize) -> bool {
-    let n = smaller(filled, out.len());
-    rt.write_all(&out[..n]).is_ok()
-}
-
-// The place after the next newline, or the end: in words, one line is answered at a time.
-fn line_end(piece: &[u8], from: usize) -> usize {
-    let mut i = from;
-    while i < piece.len() {
-        if piece[i] == 10 {
-            return i + 1;
+// How many bytes the next piece has. What is read no more has ended.
+fn next_piece(
+    rt: &(impl Input + Eprint),
+    reading: &mut bool,
+    open: bool,
+    piece: &mut [u8],
+) -> usize {
+    if *reading {
+        let bytes = read_piece(rt, piece);
+        if 0 < bytes {
+            return bytes;
         }
-        i += 1;
+        *reading = false;
     }
-    piece.len()
+    end_line(open, piece)
 }
 
-// How far the piece goes that is to be answered.
+// How far the piece goes that is to be answered: in words, one line is answered at a time.
 fn reach(explain: bool, piece: &[u8], from: usize, bytes: usize) -> usize
     ensures { result ≤ length piece.now }
 {
-    let n = smaller(bytes, piece.len());
+    let bytes = bytes.min(piece.len());
     if !explain {
-        return n;
+        return bytes;
     }
-    smaller(line_end(piece, from), n)
+    match piece.iter().skip(from).position(|b| *b == b'\n') {
+        Some(i) => bytes.min(from.saturating_add(i).saturating_add(1)),
+        None => bytes,
+    }
 }
 
 // With --explain, the line's answer in words in place of its figures; how far the output then goes.
 fn in_words(explain: bool, a: Answering, line: &[u8], out: &mut [u8]) -> usize {
-    let filled = a.filled;
-    if !explain | (filled == 0) {
-        return filled;
+    if !explain || a.filled == 0 {
+        return a.filled;
     }
-    let cut = a.cut;
-    let start = 0;
-    let shown = smaller(cut.held, line.len());
-    let too_long = line.len() < cut.held;
-    let f = a.followed;
-    let answer = f.answer;
-    let trace = f.trace;
-    let flow = trace.flow;
+    let held = a.cut.held.min(line.len());
     put_explained(
         out,
         0,
         a.lines,
-        &line[start..shown],
-        too_long,
-        answer.number,
-        flow.last.rank(),
-        flow.first.rank(),
-        flow.acked.rank(),
+        &line[..held],
+        line.len() < a.cut.held,
+        a.followed.answer.number,
+        figures(a.followed.trace),
     )
 }
 
-impl Run {
-    // Where all of the piece is answered, the next one is read.
-    fn refilled(self, rt: &(impl Input + Eprint), piece: &mut [u8]) -> Run {
-        let a = self.answering;
-        let cut = a.cut;
-        if (cut.at < self.bytes) | self.failed {
-            return self;
-        }
-        let next = next_piece(rt, self.reading, a.is_open(), piece);
-        let answering = a.at_next_piece();
-        Run {
-            answering,
-            bytes: next.bytes,
-            reading: next.reading,
-            failed: false,
-        }
-    }
-
-    // What was put is written.
-    fn after(
-        self,
-        rt: &impl Print,
-        explain: bool,
-        a: Answering,
-        line: &[u8],
-        out: &mut [u8],
-    ) -> Run {
-        let filled = in_words(explain, a, line, out);
-        let ok = write_out(rt, out, filled);
-        let answering = a.with_nothing_waiting();
-        Run {
-            answering,
-            bytes: if ok { self.bytes } else { 0 },
-            reading: self.reading,
-            failed: !ok,
-        }
-    }
+// What was put is written.
+fn write_out(
+    rt: &impl Print,
+    explain: bool,
+    a: Answering,
+    line: &[u8],
+    out: &mut [u8],
+) -> io::Result<()> {
+    let filled = in_words(explain, a, line, out).min(out.len());
+    rt.write_all(&out[..filled])
 }
 
-// To the end of the input. (The count of turns ends it after 2 ^ 64 turns.)
+// To the end of the input, or until the answers can't be written. (The count of turns ends it after 2 ^ 64 turns.)
 fn to_the_end(
     rt: &(impl Input + Print + Eprint),
     explain: bool,
@@ -169,57 +101,39 @@ fn to_the_end(
     store: &mut [u8],
     large: &mut [u64],
     small: &mut [u64],
-) -> bool {
-    let answering = Answering::start();
-    let mut r = Run {
-        answering,
-        bytes: 0,
-        reading: true,
-        failed: false,
-    };
-    let start = 0;
+) -> io::Result<()> {
+    let mut answering = Answering::start();
+    let mut bytes = 0;
+    let mut reading = true;
     for _ in 0..u64::MAX {
-        r = r.refilled(rt, piece);
-        let now = r.answering;
-        let cut = now.cut;
-        let n = reach(explain, piece, cut.at, r.bytes);
-        let a = now.answer_piece(&piece[start..n], line, out, store, large, small);
-        r = r.after(rt, explain, a, line, out);
-        if r.bytes == 0 {
+        if bytes <= answering.cut.at {
+            bytes = next_piece(rt, &mut reading, answering.is_open(), piece);
+            answering = answering.at_next_piece();
+        }
+        if bytes == 0 {
             break;
         }
+        let n = reach(explain, piece, answering.cut.at, bytes);
+        answering = answering.answer_piece(&piece[..n], line, out, store, large, small);
+        write_out(rt, explain, answering, line, out)?;
+        answering = answering.with_nothing_waiting();
     }
-    r.failed
+    Ok(())
 }
 
-fn start(rt: &(impl Input + Print + Eprint), explain: bool) {
+fn run(rt: &(impl Input + Print + Eprint), explain: bool) {
     let mut piece = [0u8; 65536];
     let mut line = [0u8; 512];
     let mut out = [0u8; 65536];
     let mut store = [0u8; 4096];
     let mut large = [0u64; 4352];
     let mut small = [0u64; 544];
-    let failed = to_the_end(
+    let written = to_the_end(
         rt, explain, &mut piece, &mut line, &mut out, &mut store, &mut large, &mut small,
     );
-    if failed {
+    if written.is_err() {
         let _ = eprintln!(rt; "trace: can't write the answers");
     }
-}
-
-// Whether the bytes are the same.
-fn same(a: &[u8], b: &[u8]) -> bool {
-    if a.len() != b.len() {
-        return false;
-    }
-    let mut i = 0;
-    while i < a.len() {
-        if a[i] != b[i] {
-            return false;
-        }
-        i += 1;
-    }
-    true
 }
 
 // Whether the program was given so many arguments, or more.
@@ -238,12 +152,12 @@ fn first_argument<'a>(rt: &impl Env, room: &'a mut [u8]) -> &'a [u8] {
 
 fn main(rt: HostRuntime) {
     if !is_given(&rt, 1) {
-        start(&rt, false);
+        run(&rt, false);
         return;
     }
     let mut word = [0u8; 16];
-    if !is_given(&rt, 2) & same(first_argument(&rt, &mut word), b"--explain") {
-        start(&rt, true);
+    if !is_given(&rt, 2) && first_argument(&rt, &mut word) == b"--explain".as_slice() {
+        run(&rt, true);
         return;
     }
     let _ = eprintln!(rt; "usage: trace [--explain] <TRACE");

@@ -1,11 +1,10 @@
 // An input answered line by line, in whatever pieces it comes.
 ghost use Rattle.std.specs.Prelude.{◌≡◌, ◌+◌, ◌≤◌, length};
 ghost use Rattle.numbers.specs.Promise.{Gives1};
-ghost use Rattle.trace_answers.specs.Input.{Gives5, answering_none, next_line, held_now, is_open, next_piece, nothing_waits, goes_on, with_cut, shown_by, answer_line, answer_piece};
+ghost use Rattle.trace_answers.specs.Input.{Gives5, answering_none, held_now, is_open, next_piece, nothing_waits, goes_on, with_cut, shown_by, answer_line, answer_piece};
 
 use crate::{follow_held, put_followed};
 use numbers::Answer;
-use numbers::arith::excess;
 use trace_readers::{Followed, Trace};
 use trace_text::{Cut, take_line};
 
@@ -19,30 +18,14 @@ pub struct Answering {
     pub filled: usize,
 }
 
-// One more, as long as that is a number.
-fn next_line(n: u64) -> u64
-    ensures { result ≡ next_line n }
-{
-    if n < 18446744073709551615 {
-        return n + 1;
-    }
-    n
-}
-
 impl Answering {
     // Before the input's first byte.
     pub fn start() -> Answering
         ensures { result ≡ answering_none }
     {
-        let followed = Trace::start().refused(Answer::done());
-        let cut = Cut {
-            at: 0,
-            held: 0,
-            ended: false,
-        };
         Answering {
-            followed,
-            cut,
+            followed: Trace::start().refused(Answer::done()),
+            cut: Cut::default(),
             lines: 0,
             filled: 0,
         }
@@ -52,11 +35,7 @@ impl Answering {
     fn held(self) -> usize
         ensures { result ≡ held_now self }
     {
-        let cut = self.cut;
-        if cut.ended {
-            return 0;
-        }
-        cut.held
+        if self.cut.ended { 0 } else { self.cut.held }
     }
 
     // Whether a line has begun and not ended.
@@ -69,46 +48,28 @@ impl Answering {
     fn with_cut(self, cut: Cut) -> Answering
         ensures { result ≡ with_cut cut self }
     {
-        let followed = self.followed;
-        Answering {
-            followed,
-            cut,
-            lines: self.lines,
-            filled: self.filled,
-        }
+        Answering { cut, ..self }
     }
 
     // The next piece, from its start.
     pub fn at_next_piece(self) -> Answering
         ensures { result ≡ next_piece self }
     {
-        let cut = self.cut;
-        self.with_cut(Cut {
-            at: 0,
-            held: cut.held,
-            ended: cut.ended,
-        })
+        self.with_cut(Cut { at: 0, ..self.cut })
     }
 
     // What was put has been written: the room is free again.
     pub fn with_nothing_waiting(self) -> Answering
         ensures { result ≡ nothing_waits self }
     {
-        let followed = self.followed;
-        let cut = self.cut;
-        Answering {
-            followed,
-            cut,
-            lines: self.lines,
-            filled: 0,
-        }
+        Answering { filled: 0, ..self }
     }
 
-    // The answer to a line is put.
+    // The answer to a line is put. The count of lines stays at the largest number.
     fn shown(self, cut: Cut, followed: Followed, out: &mut [u8]) -> Answering
         ensures { Gives1 result out.new (shown_by cut followed self out.old) }
     {
-        let lines = next_line(self.lines);
+        let lines = self.lines.saturating_add(1);
         let filled = put_followed(out, self.filled, lines, followed);
         Answering {
             followed,
@@ -130,13 +91,12 @@ impl Answering {
     ) -> Answering
         ensures { Gives5 result line.new out.new store.new large.new small.new (answer_line self piece.now line.old out.old store.old large.old small.old) }
     {
-        let before = self.cut;
-        let cut = take_line(piece, before.at, line, self.held());
+        let cut = take_line(piece, self.cut.at, line, self.held());
         if !cut.ended {
             return self.with_cut(cut);
         }
-        let last = self.followed;
-        let followed = follow_held(last.trace, line, cut.held, store, large, small);
+        let trace = self.followed.trace;
+        let followed = follow_held(trace, line, cut.held, store, large, small);
         self.shown(cut, followed, out)
     }
 
@@ -144,9 +104,7 @@ impl Answering {
     fn goes_on(self, piece: &[u8], out: &[u8]) -> bool
         ensures { result ≡ goes_on self piece.now out.now }
     {
-        let cut = self.cut;
-        let room = excess(out.len(), self.filled);
-        (cut.at < piece.len()) & (255 < room)
+        self.cut.at < piece.len() && 255 < out.len().saturating_sub(self.filled)
     }
 
     // The lines of the piece, one after the other, as long as there is room for an answer.
@@ -161,10 +119,10 @@ impl Answering {
     ) -> Answering
         ensures { Gives5 result line.new out.new store.new large.new small.new (answer_piece self piece.now line.old out.old store.old large.old small.old) }
     {
-        let mut r = self;
-        while r.goes_on(piece, out) {
-            r = r.answer_line(piece, line, out, store, large, small);
+        let mut answering = self;
+        while answering.goes_on(piece, out) {
+            answering = answering.answer_line(piece, line, out, store, large, small);
         }
-        r
+        answering
     }
 }

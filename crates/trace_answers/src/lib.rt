@@ -4,14 +4,14 @@
 ghost use Rattle.std.specs.Prelude.{◌≡◌};
 ghost use Rattle.numbers.specs.Promise.{Gives1, Gives3};
 ghost use Rattle.trace_text.specs.Answers.{put_of};
-ghost use Rattle.trace_answers.specs.Shown.{follow_held, shown_text};
+ghost use Rattle.trace_answers.specs.Shown.{follow_held, figures_in, shown_text};
 
 pub mod input;
 
 pub use input::Answering;
 use trace_readers::{Followed, Trace};
 use trace_run::follow::follow;
-use trace_text::put_answer;
+use trace_text::{Figures, put_answer};
 
 // A line of which `held` bytes have come. More than its room has: it is too long, and isn't understood.
 pub fn follow_held(
@@ -24,22 +24,28 @@ pub fn follow_held(
 ) -> Followed
     ensures { Gives3 result store.new large.new small.new (follow_held held line.now trace store.old large.old small.old) }
 {
-    let start = 0;
-    if line.len() < held {
+    let Some(line) = line.get(..held) else {
         return trace.not_understood();
+    };
+    follow(trace, line, store, large, small)
+}
+
+// The writer's figures, zeros until there is a writer.
+pub fn figures(trace: Trace) -> Figures
+    ensures { result ≡ figures_in trace }
+{
+    let flow = trace.flow;
+    Figures {
+        last: flow.last.rank(),
+        first: flow.first.rank(),
+        acked: flow.acked.rank(),
     }
-    follow(trace, &line[start..held], store, large, small)
 }
 
 // The answer to the line of this number, with the writer's figures after it.
 pub fn put_followed(out: &mut [u8], at: usize, number: u64, f: Followed) -> usize
     ensures { Gives1 result out.new (put_of at (shown_text number f) out.old) }
 {
-    let answer = f.answer;
-    let trace = f.trace;
-    let flow = trace.flow;
-    let last = flow.last.rank();
-    let first = flow.first.rank();
-    let acked = flow.acked.rank();
-    put_answer(out, at, number, answer.number as u64, last, first, acked)
+    let answer = u64::from(f.answer.number);
+    put_answer(out, at, number, answer, figures(f.trace))
 }

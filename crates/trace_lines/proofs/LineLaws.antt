@@ -1,103 +1,66 @@
--- From the code's places and numbers to what a line says. Assumes nothing.
-use Prim.Native.Nat.{ℕ, ◌<◌, ◌≤◌}
-use mathlib.Core.Path.{◌≡◌, refl, sym, ap, subst, ◌∙◌}
-use mathlib.Core.Bool.{Bool, true, false, cond, ◌&&◌, true≢false, false≢true}
-use mathlib.Core.List.{List, []}
-use native.Mathlib.Nat.{sub-zero}
+-- From the commands to what a line says. Assumes nothing.
+use Prim.Native.Nat.{ℕ, ◌-◌, ◌<◌, ◌≤◌}
+use mathlib.Core.Path.{◌≡◌, refl, sym, ap, ◌∙◌}
+use mathlib.Core.Bool.{Bool, true, false, cond}
+use mathlib.Core.List.{List, [], ◌++◌, append-nil}
 use native.Mathlib.Omega.{arith}
-use lib.Dec.{leb}
-use lib.ListN.{length, drop, replicate}
-use borrow.Author.Tests.{leb-true, leb-false, le-leb, lt-leb}
+use lib.ListN.{length, take, drop, replicate, length-take, length-drop}
+use borrow.Author.Tests.{le-leb, lt-leb}
+use Rattle.std.specs.Prelude.{Option, Some, None, MatchOption}
 use Rattle.numbers.specs.Promise.{Gives1}
-use Rattle.trace_lines.specs.declared.Place.{Place}
-use Rattle.trace_lines.specs.declared.Number.{Number}
-use Rattle.trace_lines.specs.declared.Pair.{Pair}
-use Rattle.trace_lines.specs.declared.set.Listed.{Listed}
+use Rattle.sets.proofs.Loops.{done}
 use Rattle.trace_lines.specs.declared.command.Command.{Command}
-use Rattle.trace_lines.specs.declared.command.Command.TheVariants.{Unknown}
-use Rattle.trace_lines.specs.Words.{bytes, Rest, rest, bad, Read, field, Two, two, after_key, number_of, line_ended, rest_of, read_of, pair_of}
-use Rattle.trace_lines.specs.Sets.{Members, these, none, set_said, numbers_room, set_in}
-use Rattle.trace_lines.specs.Lines.{Said, op_new, op_match, op_write, op_ack, op_sent, op_frag, op_evict, unknown, at_end, with_set, or_else, new_said, match_said, write_said, sent_said, evict_said, plain_said, ack_said, frag_said, said, command_of, numbers_in, command_left, is_known}
-use Rattle.sets.proofs.Loops.{here, done}
-
--- the start of the line
-abbrev pub Start : Place → Type 0
-Start p = (p.at ≡ 0) × (p.ok ≡ true)
-
-pub start_is : (s : List ℕ) (p : Place) → Start p → rest_of s p ≡ rest s
-start_is s p h = rw (h.1, h.0) refl
-
-pub ends_is : (s : List ℕ) (p : Place) → (p.ok && leb (length s) p.at) ≡ line_ended (rest_of s p)
-ends_is s p = go p.ok
-  where
-    to : (t : Bool) → leb (length s) p.at ≡ t → t ≡ line_ended (rest (drop p.at s))
-    to true e = rw (done s p.at (leb-true _ _ e)) refl
-    to false e = let h : p.at < length s = omega (arith, leb-false (length s) p.at e) in rw (here s p.at h) refl
-
-    go : (o : Bool) → (o && leb (length s) p.at) ≡ line_ended (cond o (rest (drop p.at s)) bad)
-    go true = to (leb (length s) p.at) refl
-    go false = refl
-
--- ---- a line of one, two or four numbers
-module _ (s : List ℕ) (p : Place) (b : Start p) where
-  pub one_is : (k : List ℕ) (n : Number) (f : ℕ → Said) (t : Bool) → read_of s n ≡ number_of (after_key k (rest_of s p)) → t ≡ line_ended (rest_of s n.next)
-      → cond t (f n.value) unknown ≡ at_end (field k (rest s)).after (f (field k (rest s)).value)
-  one_is k n f t e h =
-      ap (λ (x : Bool). cond x (f n.value) unknown) h
-      ∙ ap (λ (r : Read). at_end r.after (f r.value)) (e ∙ ap (field k) (start_is s p b))
-
-  pub two_is : (k l : List ℕ) (n : Pair) (f : ℕ → ℕ → Said) (t : Bool) → pair_of s n ≡ two k l (rest_of s p) → t ≡ line_ended (rest_of s n.next)
-      → cond t (f n.first n.second) unknown ≡ at_end (two k l (rest s)).after (f (two k l (rest s)).first (two k l (rest s)).second)
-  two_is k l n f t e h =
-      ap (λ (x : Bool). cond x (f n.first n.second) unknown) h
-      ∙ ap (λ (r : Two). at_end r.after (f r.first r.second)) (e ∙ ap (two k l) (start_is s p b))
-
-  pub four_is : (k l m o : List ℕ) (n u : Pair) (f : ℕ → ℕ → ℕ → ℕ → Said) (t : Bool) → pair_of s n ≡ two k l (rest_of s p) → pair_of s u ≡ two m o (rest_of s n.next) → t ≡ line_ended (rest_of s u.next)
-      → cond t (f n.first n.second u.first u.second) unknown
-      ≡ at_end (two m o (two k l (rest s)).after).after (f (two k l (rest s)).first (two k l (rest s)).second (two m o (two k l (rest s)).after).first (two m o (two k l (rest s)).after).second)
-  four_is k l m o n u f t e g h =
-      ap (λ (x : Bool). cond x (f n.first n.second u.first u.second) unknown) h
-      ∙ ap (λ (r : Two). at_end r.after (f n.first n.second r.first r.second)) g
-      ∙ ap (λ (q : Two). at_end (two m o q.after).after (f q.first q.second (two m o q.after).first (two m o q.after).second)) (e ∙ ap (two k l) (start_is s p b))
-
-  -- a line of two numbers and a set
-  pub set_is : (k l m : List ℕ) (n : Pair) (q : Place) (least : ℕ → ℕ) (f : ℕ → ℕ → List ℕ → Said) (c : ℕ) → pair_of s n ≡ two k l (rest_of s p) → rest_of s q ≡ after_key m (rest_of s n.next)
-      → with_set (set_said c (least n.second) (rest_of s q)) (f n.first n.second)
-      ≡ with_set (set_said c (least (two k l (rest s)).second) (after_key m (two k l (rest s)).after)) (f (two k l (rest s)).first (two k l (rest s)).second)
-  set_is k l m n q least f c e g =
-      ap (λ (x : Rest). with_set (set_said c (least n.second) x) (f n.first n.second)) g
-      ∙ ap (λ (r : Two). with_set (set_said c (least r.second) (after_key m r.after)) (f r.first r.second)) (e ∙ ap (two k l) (start_is s p b))
-
--- ---- the room
-module _ (n : ℕ) (r : Listed) (later : List ℕ) (f : List ℕ → Said) (g : ℕ → Command) (p : (l : List ℕ) → command_of (f l) ≡ g (length l)) (q : (l : List ℕ) → numbers_in (f l) ≡ l) where
-  pub set_said_lem : (ms : Members) → Gives1 r later (set_in n ms) → r.ok ≡ true → Gives1 (g r.count) later (command_left n (with_set ms f))
-  set_said_lem (these l) h o = record { result = ap (λ (x : Listed). g x.count) h.result ∙ sym (p l); first = h.first ∙ ap (numbers_room n) (sym (q l)) }
-  set_said_lem none h o = absurd (false≢true (ap (λ (x : Listed). x.ok) (sym h.result) ∙ o))
-
-  pub set_not : (ms : Members) → Gives1 r later (set_in n ms) → r.ok ≡ false → Gives1 Unknown later (command_left n (with_set ms f))
-  set_not (these l) h o = absurd (true≢false (ap (λ (x : Listed). x.ok) (sym h.result) ∙ o))
-  set_not none h o = record { result = refl; first = h.first }
+use Rattle.trace_lines.specs.Words.{bytes, rest, Read, field, Two, two, line_ended}
+use Rattle.trace_lines.specs.Lines.{Said, op_new, op_match, op_write, op_ack, op_sent, op_frag, op_evict, unknown, at_end, or_else, new_said, match_said, write_said, sent_said, evict_said, plain_said, line_said, said, command_of, numbers_in, Says, count_in, command_left}
 
 -- ---- the first that says something
-pub known : (x y : Said) → is_known (command_of x) ≡ true → x ≡ or_else x y
-known (op_new a b c d) y h = refl
-known (op_match a) y h = refl
-known (op_write a) y h = refl
-known (op_ack a b l) y h = refl
-known (op_sent a b) y h = refl
-known (op_frag a b l) y h = refl
-known (op_evict a) y h = refl
-known unknown y h = absurd (false≢true h)
+pub or_is : (x y : Said) (r : Option Command) → MatchOption (command_of x) (r ≡ command_of y) (λ c. r ≡ Some c) → r ≡ command_of (or_else x y)
+or_is (op_new a b c d) y r h = h
+or_is (op_match a) y r h = h
+or_is (op_write a) y r h = h
+or_is (op_ack a b l) y r h = h
+or_is (op_sent a b) y r h = h
+or_is (op_frag a b l) y r h = h
+or_is (op_evict a) y r h = h
+or_is unknown y r h = h
 
-pub not_known : (x y : Said) → is_known (command_of x) ≡ false → y ≡ or_else x y
-not_known (op_new a b c d) y h = absurd (true≢false h)
-not_known (op_match a) y h = absurd (true≢false h)
-not_known (op_write a) y h = absurd (true≢false h)
-not_known (op_ack a b l) y h = absurd (true≢false h)
-not_known (op_sent a b) y h = absurd (true≢false h)
-not_known (op_frag a b l) y h = absurd (true≢false h)
-not_known (op_evict a) y h = absurd (true≢false h)
-not_known unknown y h = refl
+pub or_else_is : (x y : Said) (o r : Option Command) (P : Type 0) → o ≡ command_of x → (P → r ≡ command_of y) → MatchOption o P (λ c. r ≡ Some c) → r ≡ command_of (or_else x y)
+or_else_is x y None r P e f h = or_is x y r (rw (← e) (f h))
+or_else_is x y (Some c) r P e f h = or_is x y r (rw (← e) h)
+
+pub or_else-assoc : (x y z : Said) → or_else (or_else x y) z ≡ or_else x (or_else y z)
+or_else-assoc (op_new a b c d) y z = refl
+or_else-assoc (op_match a) y z = refl
+or_else-assoc (op_write a) y z = refl
+or_else-assoc (op_ack a b l) y z = refl
+or_else-assoc (op_sent a b) y z = refl
+or_else-assoc (op_frag a b l) y z = refl
+or_else-assoc (op_evict a) y z = refl
+or_else-assoc unknown y z = refl
+
+pub first-says : (x y : Said) (c : Command) → Some c ≡ command_of x → x ≡ or_else x y
+first-says (op_new a b c d) y r h = refl
+first-says (op_match a) y r h = refl
+first-says (op_write a) y r h = refl
+first-says (op_ack a b l) y r h = refl
+first-says (op_sent a b) y r h = refl
+first-says (op_frag a b l) y r h = refl
+first-says (op_evict a) y r h = refl
+first-says unknown y r h = cc
+
+pub second-says : (x y : Said) → None ≡ command_of x → y ≡ or_else x y
+second-says (op_new a b c d) y h = cc
+second-says (op_match a) y h = cc
+second-says (op_write a) y h = cc
+second-says (op_ack a b l) y h = cc
+second-says (op_sent a b) y h = cc
+second-says (op_frag a b l) y h = cc
+second-says (op_evict a) y h = cc
+second-says unknown y h = refl
+
+-- a promise about one saying is one about an equal saying
+pub says_as : {r : Option Command} {room : List ℕ} (c d : Said) → c ≡ d → Says c r room → Says d r room
+says_as {r} {room} c d e g = rw (← e) g
 
 -- a plain line has no numbers for the room
 none-cond : (t : Bool) (c : Said) → numbers_in c ≡ [] → numbers_in (cond t c unknown) ≡ []
@@ -133,23 +96,43 @@ plain_none s =
     (none-two (two (bytes "op=sent reader=") (bytes " seq=") (rest s)) op_sent (λ (m n : ℕ). refl))
     (none_one (field (bytes "op=evict before=") (rest s)) op_evict (λ (n : ℕ). refl)))))
 
-pub cleared : (n : ℕ) (c : Said) (room : List ℕ) → room ≡ replicate n 0 → numbers_in c ≡ [] → Gives1 (command_of c) room (command_left n c)
-cleared n c room e z = record { result = refl; first = e ∙ rw (z, sub-zero) refl }
+pub plain-says : (s : List ℕ) (r : Option Command) (room : List ℕ) → r ≡ command_of (plain_said s) → Says (plain_said s) r room
+plain-says s r room e = record { command = e; stand = ap (λ (l : List ℕ). take (length l) room) (plain_none s) ∙ sym (plain_none s) }
 
--- as the code tests it
-pub first-is : (x y : Said) (c : Command) (t : Bool) → c ≡ command_of x → t ≡ is_known c → t ≡ true → x ≡ or_else x y
-first-is x y c t e k h = known x y (ap is_known (sym e) ∙ sym k ∙ h)
+-- ---- the room
+count-is : (c : Said) → count_in (command_of c) ≡ length (numbers_in c)
+count-is (op_new a b c d) = refl
+count-is (op_match a) = refl
+count-is (op_write a) = refl
+count-is (op_ack a b l) = refl
+count-is (op_sent a b) = refl
+count-is (op_frag a b l) = refl
+count-is (op_evict a) = refl
+count-is unknown = refl
 
-pub first_not : (x y : Said) (c : Command) (t : Bool) → c ≡ command_of x → t ≡ is_known c → t ≡ false → y ≡ or_else x y
-first_not x y c t e k h = not_known x y (ap is_known (sym e) ∙ sym k ∙ h)
+module _ (c : Said) (r : Option Command) (room : List ℕ) (g : Says c r room) (n : ℕ) (e : n ≡ count_in r) where
+  held : n ≡ length (numbers_in c)
+  held = e ∙ ap count_in g.command ∙ count-is c
 
--- what is said, of a line that is not too long
-pub short_is : (k : ℕ) (s : List ℕ) → length s ≤ 512 → or_else (plain_said s) (or_else (ack_said k s) (frag_said k s)) ≡ said k s
+  pub held_fits : n ≤ length room
+  held_fits = omega (arith, held, ap length g.stand, length-take (length (numbers_in c)) room)
+
+  -- the rest of it cleared: z is what a part of it becomes
+  pub cleared : (k : ℕ) (z : List ℕ) → length room ≡ k → z ≡ replicate (length room - n) 0
+      → Gives1 r (take n room ++ (z ++ drop (length room - n) (drop n room))) (command_left k c)
+  cleared k z q h =
+      let gone : drop (length room - n) (drop n room) ≡ [] = done (drop n room) (length room - n) (rw length-drop (omega arith)) in
+      record {
+        result = g.command;
+        first = rw (gone, append-nil, h, ← q, held) (ap (λ (l : List ℕ). l ++ replicate (length room - length (numbers_in c)) 0) g.stand);
+      }
+
+-- ---- what is said, of a line that is not too long
+pub short_is : (k : ℕ) (s : List ℕ) → length s ≤ 512 → line_said k s ≡ said k s
 short_is k s h = rw (le-leb (length s) 512 h) refl
 
 pub long_is : (k : ℕ) (s : List ℕ) → 512 < length s → unknown ≡ said k s
 long_is k s h = rw (lt-leb (length s) 512 h) refl
 
--- a promise about one saying is one about an equal saying
-pub given_as : {r : Command} {room : List ℕ} (n : ℕ) (c d : Said) → c ≡ d → Gives1 r room (command_left n c) → Gives1 r room (command_left n d)
-given_as {r} {room} n c d e g = subst (λ (x : Said). Gives1 r room (command_left n x)) e g
+pub given_as : {r : Option Command} {room : List ℕ} (n : ℕ) (c d : Said) → c ≡ d → Gives1 r room (command_left n c) → Gives1 r room (command_left n d)
+given_as {r} {room} n c d e g = rw (← e) g

@@ -2,19 +2,16 @@
 use Prim.Native.Nat.{ℕ, suc, ◌+◌, ◌-◌, ◌<◌, ◌≤◌}
 use mathlib.Core.Path.{◌≡◌, refl, sym, ap, ◌∙◌}
 use mathlib.Core.Bool.{Bool, true, false, cond}
-use mathlib.Core.List.{List, [], ◌++◌, append_assoc, append-nil}
+use mathlib.Core.List.{List, [], ◌∷◌, ◌++◌, append_assoc, append-nil}
 use native.Mathlib.Numerals.{add-one}
 use native.Mathlib.Omega.{arith}
 use lib.Dec.{leb}
-use lib.ListN.{length, take, drop, get_or, set, replicate, length-take, length-drop}
-use lib.Seq.{take-suc-set, length-take-le, take_at}
+use lib.ListN.{length, take, drop, get_or, set, length-set}
+use lib.Seq.{take-suc-set, length-take-le, take_all}
 use borrow.Author.Tests.{eq-eqb, ne_eqb, le-leb, lt-leb}
-use Rattle.sets.proofs.Loops.{here, done}
-use Rattle.numbers.specs.Promise.{Gives1}
-use Rattle.trace_lines.specs.declared.Number.{Number}
-use Rattle.trace_lines.specs.declared.set.Listed.{Listed}
-use Rattle.trace_lines.specs.Words.{number_in, read_of}
-use Rattle.trace_lines.specs.Sets.{Members, these, none, also, listed_in, told_by, numbers_of, numbers_room, Listing, is_these, set_in}
+use Rattle.std.specs.Prelude.{Some, None}
+use Rattle.trace_lines.specs.Words.{rest, nothing, number_in}
+use Rattle.trace_lines.specs.Sets.{Members, these, none, also, after_number, listed_in, Listing}
 
 -- the numbers p, and then ms
 abbrev pub prefixed : List ℕ → Members → Members
@@ -33,63 +30,64 @@ same : (t : Bool) → cond t none none ≡ none
 same true = refl
 same false = refl
 
--- one number of the list, as the code reads it
-module _ (s : List ℕ) (i m k : ℕ) (d : Number) (e : read_of s d ≡ number_in (drop i s)) where
-  pub list-bad : d.next.ok ≡ false → listed_in (suc k) m (drop i s) ≡ none
-  list-bad o = rw (← e, o) (same (leb m d.value))
+-- one number of the list
+module _ (s : List ℕ) (m k : ℕ) where
+  pub list-bad : nothing ≡ number_in s → listed_in (suc k) m s ≡ none
+  list-bad e = rw (← e) (same (leb m 0))
 
-  pub list-low : d.value < m → listed_in (suc k) m (drop i s) ≡ none
-  list-low h = rw (← e, lt-leb m d.value h)
+  module _ (v : ℕ) (after : List ℕ) (e : record { value = v; after = rest after } ≡ number_in s) where
+    pub list-low : v < m → listed_in (suc k) m s ≡ none
+    list-low h = rw (← e, lt-leb m v h)
 
-  module _ (o : d.next.ok ≡ true) (h : m ≤ d.value) where
-    pub list_end : length s ≤ d.next.at → listed_in (suc k) m (drop i s) ≡ also d.value (these [])
-    list_end g = rw (← e, o, le-leb m d.value h, done s d.next.at g)
+    pub list-is : m ≤ v → listed_in (suc k) m s ≡ after_number v (rest after) (listed_in k (v + 1))
+    list-is h = rw (← e, le-leb m v h)
 
-    pub list_other : d.next.at < length s → (get_or s d.next.at 0 ≡ 44 → ⊥) → listed_in (suc k) m (drop i s) ≡ none
-    list_other g n = rw (← e, o, le-leb m d.value h, here s d.next.at g, ne_eqb _ _ n)
+-- what follows it: nothing, a comma, or something else
+module _ (v : ℕ) (more : List ℕ → Members) where
+  pub after_end : (a : List ℕ) → length a < 1 → after_number v (rest a) more ≡ also v (these [])
+  after_end [] h = refl
+  after_end (b ∷ a) h = absurd (omega arith)
 
-    pub list_more : d.next.at < length s → get_or s d.next.at 0 ≡ 44 → listed_in (suc k) m (drop i s) ≡ also d.value (listed_in k (d.value + 1) (drop (d.next.at + 1) s))
-    list_more g n = rw (← e, o, le-leb m d.value h, here s d.next.at g, eq-eqb _ _ n)
+  pub after_other : (a : List ℕ) → 1 ≤ length a → (get_or a 0 0 ≡ 44 → ⊥) → after_number v (rest a) more ≡ none
+  after_other [] h n = absurd (omega arith)
+  after_other (b ∷ a) h n = rw (ne_eqb b 44 n)
+
+  pub after_comma : (a : List ℕ) → 1 ≤ length a → get_or a 0 0 ≡ 44 → after_number v (rest a) more ≡ also v (more (take (length a - 1) (drop 1 a)))
+  after_comma [] h e = absurd (omega arith)
+  after_comma (b ∷ a) h e =
+      let q : length a ≤ length (b ∷ a) - 1 = omega arith in
+      rw (eq-eqb b 44 e, take_all (length (b ∷ a) - 1) a q)
 
 -- ---- the answer
-pub none-listed : (ms : Members) (n : ℕ) (room : List ℕ) → ms ≡ none → Listing ms n (record { count = 0; ok = false }) room
-none-listed ms n room e = record { told = sym e; count = ap (λ (x : Members). length (numbers_of x)) (sym e); within = omega arith }
+pub none-listed : (ms : Members) (room : List ℕ) → ms ≡ none → Listing ms None room
+none-listed ms room e = rw e (record { count = refl; stand = refl })
 
-pub some-listed : (ms : Members) (n k : ℕ) (room : List ℕ) → ms ≡ these (take k room) → k ≤ length room → k ≤ n → Listing ms n (record { count = k; ok = true }) room
-some-listed ms n k room e h g = record { told = sym e; count = sym (ap (λ (x : Members). length (numbers_of x)) e ∙ length-take-le k room h); within = g }
+pub some-listed : (ms : Members) (k : ℕ) (room : List ℕ) → ms ≡ these (take k room) → k ≤ length room → Listing ms (Some k) room
+some-listed ms k room e h =
+    let q = length-take-le k room h in
+    rw e (record { count = ap Some (sym q); stand = ap (λ (n : ℕ). take n room) q })
 
--- ---- the room
-pub listed-numbers : (ms : Members) (n : ℕ) (r : Listed) (room : List ℕ) → Listing ms n r room → take r.count room ≡ numbers_of ms
-listed-numbers ms n r room l = go r.ok refl
-  where
-    go : (t : Bool) → r.ok ≡ t → take r.count room ≡ numbers_of ms
-    go true e = ap numbers_of (rw e at l.told)
-    go false e =
-        let m : none ≡ ms = rw e at l.told in
-        let z : r.count ≡ 0 = l.count ∙ ap (λ (x : Members). length (numbers_of x)) (sym m) in
-        rw (z, ← m)
+-- ---- one turn
+module _ (s room : List ℕ) (all : Members) (m big n v : ℕ) (after : List ℕ) (e : record { value = v; after = rest after } ≡ number_in s) (h : m ≤ v) (b : n < big) (same_big : length room ≡ big)
+    (i : all ≡ prefixed (take n room) (listed_in (big - n) m s)) where
+  turn : all ≡ prefixed (take n room) (after_number v (rest after) (listed_in (big - (n + 1)) (v + 1)))
+  turn =
+      let q : big - n ≡ suc (big - (n + 1)) = omega arith in
+      i ∙ ap (λ (x : ℕ). prefixed (take n room) (listed_in x m s)) q ∙ ap (prefixed (take n room)) (list-is s m (big - (n + 1)) v after e h)
 
--- the rest of the room is cleared: z is what a part of it becomes
-pub told-filled : (ms : Members) (k : ℕ) (r : Listed) (room z : List ℕ) → length room ≡ k → Listing ms k r room → z ≡ replicate (length (take (length room - r.count) (drop r.count room))) 0
-    → (told_by r (take r.count room ++ (z ++ drop (length room - r.count) (drop r.count room))) ≡ ms) × (take r.count room ++ (z ++ drop (length room - r.count) (drop r.count room)) ≡ numbers_room k (numbers_of ms))
-told-filled ms k r room z q l e =
-    let n = listed-numbers ms k r room l in
-    let h : r.count ≤ length room = omega (arith, l.within) in
-    let t = length-take-le r.count room h in
-    let len : length (take (length room - r.count) (drop r.count room)) ≡ k - r.count = simp (length-take, length-drop) (omega arith) in
-    let gone : drop (length room - r.count) (drop r.count room) ≡ [] = done (drop r.count room) (length room - r.count) (rw length-drop (omega arith)) in
-    (rw (take_at (take r.count room) (z ++ drop (length room - r.count) (drop r.count room)) r.count t) l.told, rw (gone, append-nil, e, len, ← n, t))
+  fits : n < length room
+  fits = omega arith
 
-told_ok : (r : Listed) (room : List ℕ) → r.ok ≡ is_these (told_by r room)
-told_ok r room = go r.ok
-  where
-    go : (t : Bool) → t ≡ is_these (cond t (these (take r.count room)) none)
-    go true = refl
-    go false = refl
+  pub turn_end : length after < 1 → Listing all (Some (n + 1)) (set room n v)
+  turn_end g =
+      some-listed all (n + 1) (set room n v)
+      (turn ∙ ap (prefixed (take n room)) (after_end v (listed_in (big - (n + 1)) (v + 1)) after g) ∙ prefixed_more room n v (these []) fits ∙ ap these (append-nil (take (n + 1) (set room n v))))
+      (rw length-set (omega (arith, fits)))
 
-pub set_given : (ms : Members) (n : ℕ) (r : Listed) (room : List ℕ) → told_by r room ≡ ms → r.count ≡ length (numbers_of ms) → room ≡ numbers_room n (numbers_of ms) → Gives1 r room (set_in n ms)
-set_given ms n r room t c f =
-    record {
-      result = ap (λ (k : ℕ). record { count = k; ok = r.ok }) c ∙ ap (λ (b : Bool). record { count = length (numbers_of ms); ok = b }) (told_ok r room ∙ ap is_these t);
-      first = f;
-    }
+  pub turn_other : 1 ≤ length after → (get_or after 0 0 ≡ 44 → ⊥) → Listing all None (set room n v)
+  turn_other g o = none-listed all (set room n v) (turn ∙ ap (prefixed (take n room)) (after_other v (listed_in (big - (n + 1)) (v + 1)) after g o))
+
+  pub turn_more : 1 ≤ length after → get_or after 0 0 ≡ 44 → all ≡ prefixed (take (n + 1) (set room n v)) (listed_in (big - (n + 1)) (v + 1) (take (length after - 1) (drop 1 after)))
+  turn_more g o =
+      turn ∙ ap (prefixed (take n room)) (after_comma v (listed_in (big - (n + 1)) (v + 1)) after g o)
+      ∙ prefixed_more room n v (listed_in (big - (n + 1)) (v + 1) (take (length after - 1) (drop 1 after))) fits

@@ -1,8 +1,8 @@
 -- What a line says: exactly one command, or nothing. Assumes nothing.
-use Rattle.std.specs.Prelude.{ℕ, Bool, true, false, cond, List, [], leb, length}
+use Rattle.std.specs.Prelude.{ℕ, ◌≡◌, cond, List, [], Option, Some, None, leb, length, take}
 use Rattle.numbers.specs.Promise.{Left1}
 use Rattle.trace_lines.specs.declared.command.Command.{Command}
-use Rattle.trace_lines.specs.declared.command.Command.TheVariants.{New, Match, Write, Ack, Sent, Frag, Evict, Unknown}
+use Rattle.trace_lines.specs.declared.command.Command.TheVariants.{New, Match, Write, Ack, Sent, Frag, Evict}
 use Rattle.trace_lines.specs.Words.{Rest, rest, bytes, after_key, field, two, line_ended}
 use Rattle.trace_lines.specs.Sets.{Members, these, none, set_said, numbers_room}
 
@@ -74,20 +74,24 @@ or_else (op_evict a) d = op_evict a
 abbrev pub plain_said : List ℕ → Said
 plain_said s = or_else (new_said s) (or_else (match_said s) (or_else (write_said s) (or_else (sent_said s) (evict_said s))))
 
+-- any line, with a set of at most k numbers
+abbrev pub line_said : ℕ → List ℕ → Said
+line_said k s = or_else (plain_said s) (or_else (ack_said k s) (frag_said k s))
+
 -- "reads lines of at most 512 bytes": what a line says, with a set of at most k numbers
 abbrev pub said : ℕ → List ℕ → Said
-said k s = cond (leb (length s) 512) (or_else (plain_said s) (or_else (ack_said k s) (frag_said k s))) unknown
+said k s = cond (leb (length s) 512) (line_said k s) unknown
 
 -- ---- the code's answer: the command, with the numbers of its set in the room
-abbrev pub command_of : Said → Command
-command_of (op_new w b r s) = New w b r s
-command_of (op_match r) = Match r
-command_of (op_write n) = Write n
-command_of (op_ack r b l) = Ack r b (length l)
-command_of (op_sent r q) = Sent r q
-command_of (op_frag r q l) = Frag r q (length l)
-command_of (op_evict k) = Evict k
-command_of unknown = Unknown
+abbrev pub command_of : Said → Option Command
+command_of (op_new w b r s) = Some (New w b r s)
+command_of (op_match r) = Some (Match r)
+command_of (op_write n) = Some (Write n)
+command_of (op_ack r b l) = Some (Ack r b (length l))
+command_of (op_sent r q) = Some (Sent r q)
+command_of (op_frag r q l) = Some (Frag r q (length l))
+command_of (op_evict k) = Some (Evict k)
+command_of unknown = None
 
 abbrev pub numbers_in : Said → List ℕ
 numbers_in (op_new w b r s) = []
@@ -99,16 +103,21 @@ numbers_in (op_frag r q l) = l
 numbers_in (op_evict k) = []
 numbers_in unknown = []
 
--- a room of n words holds the numbers, and zero in the rest
-abbrev pub command_left : ℕ → Said → Left1 Command (List ℕ)
-command_left n c = record { result = command_of c; first = numbers_room n (numbers_in c) }
+-- the numbers stand at the start of the room
+pub record Says (c : Said) (r : Option Command) (room : List ℕ) : Type 0 where
+  pub command : r ≡ command_of c
+  pub stand : take (length (numbers_in c)) room ≡ numbers_in c
 
-abbrev pub is_known : Command → Bool
-is_known (New w b r s) = true
-is_known (Match r) = true
-is_known (Write n) = true
-is_known (Ack r b n) = true
-is_known (Sent r q) = true
-is_known (Frag r q n) = true
-is_known (Evict k) = true
-is_known Unknown = false
+abbrev pub count_in : Option Command → ℕ
+count_in None = 0
+count_in (Some (New w b r s)) = 0
+count_in (Some (Match r)) = 0
+count_in (Some (Write n)) = 0
+count_in (Some (Ack r b n)) = n
+count_in (Some (Sent r q)) = 0
+count_in (Some (Frag r q n)) = n
+count_in (Some (Evict k)) = 0
+
+-- a room of n words holds the numbers, and zero in the rest
+abbrev pub command_left : ℕ → Said → Left1 (Option Command) (List ℕ)
+command_left n c = record { result = command_of c; first = numbers_room n (numbers_in c) }

@@ -1,7 +1,5 @@
 -- What a set in a line says: "sets rise, with commas"; up to the line's end. Assumes nothing.
-use Rattle.std.specs.Prelude.{ℕ, zero, suc, ◌+◌, ◌-◌, ◌≤◌, ◌≡◌, Bool, true, false, cond, List, [], ◌∷◌, ◌++◌, length, take, replicate, leb, eqb}
-use Rattle.numbers.specs.Promise.{Left1}
-use Rattle.trace_lines.specs.declared.set.Listed.{Listed}
+use Rattle.std.specs.Prelude.{ℕ, zero, suc, ◌+◌, ◌-◌, ◌≡◌, cond, List, [], ◌∷◌, ◌++◌, Option, Some, None, length, take, replicate, leb, eqb}
 use Rattle.trace_lines.specs.Words.{Rest, rest, bad, number_in}
 
 pub data Members : Type 0 where
@@ -32,8 +30,9 @@ set_said k m (rest s) = set_from k m s
 set_said k m bad = none
 
 -- ---- the code's answer
-abbrev pub told_by : Listed → List ℕ → Members
-told_by r room = cond r.ok (these (take r.count room)) none
+abbrev pub count_of : Members → Option ℕ
+count_of (these l) = Some (length l)
+count_of none = None
 
 abbrev pub numbers_of : Members → List ℕ
 numbers_of (these l) = l
@@ -43,15 +42,7 @@ numbers_of none = []
 abbrev pub numbers_room : ℕ → List ℕ → List ℕ
 numbers_room n l = l ++ replicate (n - length l) 0
 
-pub record Listing (ms : Members) (n : ℕ) (r : Listed) (room : List ℕ) : Type 0 where
-  pub told : told_by r room ≡ ms
-  pub count : r.count ≡ length (numbers_of ms)
-  pub within : r.count ≤ n
-
-abbrev pub is_these : Members → Bool
-is_these (these l) = true
-is_these none = false
-
--- what is said of a set, and the room of n words that it leaves
-abbrev pub set_in : ℕ → Members → Left1 Listed (List ℕ)
-set_in n ms = record { result = record { count = length (numbers_of ms); ok = is_these ms }; first = numbers_room n (numbers_of ms) }
+-- how many there are, with the numbers at the start of the room
+pub record Listing (ms : Members) (r : Option ℕ) (room : List ℕ) : Type 0 where
+  pub count : r ≡ count_of ms
+  pub stand : take (length (numbers_of ms)) room ≡ numbers_of ms

@@ -1,10 +1,8 @@
 -- What the words of a line say: keys and numbers. "Numbers are 1 to 19 digits, up to 2^63−1, no sign". Assumes nothing.
-use Rattle.std.specs.Prelude.{ℕ, zero, suc, ◌+◌, ◌-◌, ◌*◌, ◌<◌, ◌≡◌, Bool, true, false, cond, ◌&&◌, List, [], ◌∷◌, drop, ltb, leb, eqb}
+use Rattle.std.specs.Prelude.{ℕ, zero, suc, ◌+◌, ◌-◌, ◌*◌, Bool, true, false, cond, ◌&&◌, List, [], ◌∷◌, Option, Some, None, ltb, leb, eqb}
 use Prim.Native.String.{String, [] as none, ◌∷◌ as cons}
 use Prim.Native.Char.{code}
-use Rattle.trace_lines.specs.declared.Place.{Place}
-use Rattle.trace_lines.specs.declared.Number.{Number}
-use Rattle.trace_lines.specs.declared.Pair.{Pair}
+use Rattle.std.specs.Borrow.{Bor}
 
 -- the bytes of a text
 abbrev pub bytes : String → List ℕ
@@ -75,23 +73,11 @@ line_ended bad = false
 line_ended (rest []) = true
 line_ended (rest (b ∷ s)) = false
 
--- ---- the code's places
-abbrev pub rest_of : List ℕ → Place → Rest
-rest_of s c = cond c.ok (rest (drop c.at s)) bad
+-- ---- the code's answers: what is left of a line, and a number with what is left after it
+abbrev pub rest_of : Option (Bor (List ℕ)) → Rest
+rest_of None = bad
+rest_of (Some s) = rest s.now
 
-abbrev pub not_a_number : Number
-not_a_number = record { value = 0; next = record { at = 0; ok = false } }
-
-abbrev pub number_to : ℕ → ℕ → Number
-number_to v at = cond (ltb v 9223372036854775808) (record { value = v; next = record { at = at; ok = true } }) not_a_number
-
--- what the code's number says of the line s
-abbrev pub read_of : List ℕ → Number → Read
-read_of s r = record { value = r.value; after = rest_of s r.next }
-
-pub record NumberRead (s : List ℕ) (from : Rest) (r : Number) : Type 0 where
-  pub is : read_of s r ≡ number_of from
-  pub small : r.value < 9223372036854775808
-
-abbrev pub pair_of : List ℕ → Pair → Two
-pair_of s p = record { first = p.first; second = p.second; after = rest_of s p.next }
+abbrev pub read_of : Option (ℕ × Bor (List ℕ)) → Read
+read_of None = nothing
+read_of (Some p) = record { value = p.0; after = rest p.1.now }

@@ -1,11 +1,11 @@
 // The one command that a line says. The numbers of its set stand in a lent room.
 ghost use Rattle.std.specs.Prelude.{◌≡◌, length};
 ghost use Rattle.numbers.specs.Promise.{Gives1};
-ghost use Rattle.trace_lines.specs.Lines.{command_of, is_known, new_said, match_said, write_said, ack_said};
-ghost use Rattle.trace_lines.specs.Lines.{sent_said, frag_said, evict_said, plain_said, said, command_left};
+ghost use Rattle.trace_lines.specs.Lines.{command_of, new_said, match_said, write_said, ack_said, sent_said, frag_said, evict_said};
+ghost use Rattle.trace_lines.specs.Lines.{plain_said, line_said, said, Says, count_in, command_left};
 
-use crate::Place;
-use crate::set::clear;
+use crate::set::set;
+use crate::{field, past_key};
 
 #[derive(Clone, Copy)]
 pub enum Command {
@@ -38,166 +38,118 @@ pub enum Command {
     Evict {
         before: u64,
     },
-    Unknown,
 }
 
-fn is_known(c: Command) -> bool
-    ensures { result ≡ is_known c }
-{
-    match c {
-        Command::New {
-            window: _,
-            backlog: _,
-            retain: _,
-            slots: _,
-        } => true,
-        Command::Match { reader: _ } => true,
-        Command::Write { len: _ } => true,
-        Command::Ack {
-            reader: _,
-            base: _,
-            count: _,
-        } => true,
-        Command::Sent { reader: _, seq: _ } => true,
-        Command::Frag {
-            reader: _,
-            seq: _,
-            count: _,
-        } => true,
-        Command::Evict { before: _ } => true,
-        Command::Unknown => false,
-    }
-}
-
-fn new_line(s: &[u8]) -> Command
+fn new_line(s: &[u8]) -> Option<Command>
     ensures { result ≡ command_of (new_said s.now) }
 {
-    let t = Place::start().pair(s, b"op=new window=", b" backlog=");
-    let u = t.next.pair(s, b" retain=", b" slots=");
-    if u.next.ends(s) {
-        return Command::New {
-            window: t.first,
-            backlog: t.second,
-            retain: u.first,
-            slots: u.second,
-        };
-    }
-    Command::Unknown
+    let (window, s) = field(s, b"op=new window=")?;
+    let (backlog, s) = field(s, b" backlog=")?;
+    let (retain, s) = field(s, b" retain=")?;
+    let (slots, s) = field(s, b" slots=")?;
+    s.is_empty().then_some(Command::New {
+        window,
+        backlog,
+        retain,
+        slots,
+    })
 }
 
-fn match_line(s: &[u8]) -> Command
+fn match_line(s: &[u8]) -> Option<Command>
     ensures { result ≡ command_of (match_said s.now) }
 {
-    let f = Place::start().field(s, b"op=match reader=");
-    if f.next.ends(s) {
-        return Command::Match { reader: f.value };
-    }
-    Command::Unknown
+    let (reader, s) = field(s, b"op=match reader=")?;
+    s.is_empty().then_some(Command::Match { reader })
 }
 
-fn write_line(s: &[u8]) -> Command
+fn write_line(s: &[u8]) -> Option<Command>
     ensures { result ≡ command_of (write_said s.now) }
 {
-    let f = Place::start().field(s, b"op=write len=");
-    if f.next.ends(s) {
-        return Command::Write { len: f.value };
-    }
-    Command::Unknown
+    let (len, s) = field(s, b"op=write len=")?;
+    s.is_empty().then_some(Command::Write { len })
 }
 
-fn sent_line(s: &[u8]) -> Command
+fn sent_line(s: &[u8]) -> Option<Command>
     ensures { result ≡ command_of (sent_said s.now) }
 {
-    let t = Place::start().pair(s, b"op=sent reader=", b" seq=");
-    if t.next.ends(s) {
-        return Command::Sent {
-            reader: t.first,
-            seq: t.second,
-        };
-    }
-    Command::Unknown
+    let (reader, s) = field(s, b"op=sent reader=")?;
+    let (seq, s) = field(s, b" seq=")?;
+    s.is_empty().then_some(Command::Sent { reader, seq })
 }
 
-fn evict_line(s: &[u8]) -> Command
+fn evict_line(s: &[u8]) -> Option<Command>
     ensures { result ≡ command_of (evict_said s.now) }
 {
-    let f = Place::start().field(s, b"op=evict before=");
-    if f.next.ends(s) {
-        return Command::Evict { before: f.value };
-    }
-    Command::Unknown
+    let (before, s) = field(s, b"op=evict before=")?;
+    s.is_empty().then_some(Command::Evict { before })
 }
 
-fn ack_line(s: &[u8], room: &mut [u64]) -> Command
-    ensures { Gives1 result room.new (command_left (length room.old) (ack_said (length room.old) s.now)) }
+fn ack_line(s: &[u8], room: &mut [u64]) -> Option<Command>
+    ensures { Says (ack_said (length room.old) s.now) result room.new }
 {
-    let t = Place::start().pair(s, b"op=ack reader=", b" base=");
-    let least = t.second;
-    let l = t.next.key(s, b" set=").set(s, least, room);
-    if !l.ok {
-        return Command::Unknown;
-    }
-    Command::Ack {
-        reader: t.first,
-        base: least,
-        count: l.count,
-    }
+    let (reader, s) = field(s, b"op=ack reader=")?;
+    let (base, s) = field(s, b" base=")?;
+    let count = set(past_key(s, b" set=")?, base, room)?;
+    Some(Command::Ack {
+        reader,
+        base,
+        count,
+    })
 }
 
-fn frag_line(s: &[u8], room: &mut [u64]) -> Command
-    ensures { Gives1 result room.new (command_left (length room.old) (frag_said (length room.old) s.now)) }
+fn frag_line(s: &[u8], room: &mut [u64]) -> Option<Command>
+    ensures { Says (frag_said (length room.old) s.now) result room.new }
 {
-    let t = Place::start().pair(s, b"op=frag reader=", b" seq=");
-    let l = t.next.key(s, b" set=").set(s, 0, room);
-    if !l.ok {
-        return Command::Unknown;
-    }
-    Command::Frag {
-        reader: t.first,
-        seq: t.second,
-        count: l.count,
-    }
+    let (reader, s) = field(s, b"op=frag reader=")?;
+    let (seq, s) = field(s, b" seq=")?;
+    let count = set(past_key(s, b" set=")?, 0, room)?;
+    Some(Command::Frag { reader, seq, count })
 }
 
 // A line without a set.
-fn plain_line(s: &[u8]) -> Command
+fn plain_line(s: &[u8]) -> Option<Command>
     ensures { result ≡ command_of (plain_said s.now) }
 {
-    let c = new_line(s);
-    if is_known(c) {
-        return c;
+    new_line(s)
+        .or_else(|| match_line(s))
+        .or_else(|| write_line(s))
+        .or_else(|| sent_line(s))
+        .or_else(|| evict_line(s))
+}
+
+// A line of any length.
+fn line(s: &[u8], room: &mut [u64]) -> Option<Command>
+    ensures { Says (line_said (length room.old) s.now) result room.new }
+{
+    if let Some(command) = plain_line(s) {
+        return Some(command);
     }
-    let c = match_line(s);
-    if is_known(c) {
-        return c;
+    if let Some(command) = ack_line(s, room) {
+        return Some(command);
     }
-    let c = write_line(s);
-    if is_known(c) {
-        return c;
+    frag_line(s, room)
+}
+
+// How many numbers stand in the room.
+fn count(command: Option<Command>) -> usize
+    ensures { result ≡ count_in command }
+{
+    match command {
+        Some(Command::Ack { count, .. } | Command::Frag { count, .. }) => count,
+        _ => 0,
     }
-    let c = sent_line(s);
-    if is_known(c) {
-        return c;
-    }
-    evict_line(s)
 }
 
 // What the line says; the numbers of its set at the start of the room, and zero in the rest of it.
-pub fn read_line(s: &[u8], room: &mut [u64]) -> Command
+pub fn read_line(s: &[u8], room: &mut [u64]) -> Option<Command>
     ensures { Gives1 result room.new (command_left (length room.old) (said (length room.old) s.now)) }
 {
     if 512 < s.len() {
-        clear(room);
-        return Command::Unknown;
+        room.fill(0);
+        return None;
     }
-    let c = plain_line(s);
-    if is_known(c) {
-        clear(room);
-        return c;
-    }
-    let c = ack_line(s, room);
-    if is_known(c) {
-        return c;
-    }
-    frag_line(s, room)
+    let command = line(s, room);
+    let held = count(command);
+    room[held..].fill(0);
+    command
 }

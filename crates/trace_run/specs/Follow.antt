@@ -2,7 +2,7 @@
 use Rattle.std.specs.Prelude.{ℕ, min, cond, List, length, take}
 use Rattle.numbers.specs.Promise.{Left1, Left2, Left3}
 use Rattle.trace_lines.specs.declared.command.Command.{Command}
-use Rattle.trace_lines.specs.declared.command.Command.TheVariants.{New, Match, Write, Ack, Sent, Frag, Evict, Unknown}
+use Rattle.trace_lines.specs.declared.command.Command.TheVariants.{New, Match, Write, Ack, Sent, Frag, Evict}
 use Rattle.trace_lines.specs.Lines.{Said, op_new, op_match, op_write, op_ack, op_sent, op_frag, op_evict, unknown, said}
 use Rattle.trace_readers.specs.declared.state.Trace.{Trace}
 use Rattle.trace_readers.specs.declared.state.Followed.{Followed}
@@ -66,7 +66,6 @@ first_by (Ack id base n) t = refused_by not_understood t
 first_by (Sent id seq) t = refused_by not_understood t
 first_by (Frag id seq n) t = refused_by not_understood t
 first_by (Evict before) t = refused_by not_understood t
-first_by Unknown t = refused_by not_understood t
 
 abbrev pub later_by : Command → List ℕ → Trace → List ℕ → List ℕ → List ℕ → Left3 Followed (List ℕ) (List ℕ) (List ℕ)
 later_by (New w b r s) numbers t store large small = no_room (refused_by not_understood t) store large small
@@ -76,4 +75,3 @@ later_by (Ack id base n) numbers t store large small = in_both (ack_line id base
 later_by (Sent id seq) numbers t store large small = in_large (sent_line id seq t large) store small
 later_by (Frag id seq n) numbers t store large small = in_both (frag_line id seq (first_numbers n numbers) t large small) store
 later_by (Evict before) numbers t store large small = no_room (evict_step before t) store large small
-later_by Unknown numbers t store large small = no_room (refused_by not_understood t) store large small

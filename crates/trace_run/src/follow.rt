@@ -1,43 +1,42 @@
 // One line: what it says is done, or refused.
-ghost use Rattle.std.specs.Prelude.{◌≡◌, ◌≤◌, min, length};
+ghost use Rattle.std.specs.Prelude.{◌≡◌};
 ghost use Rattle.numbers.specs.Promise.{Gives3};
-ghost use Rattle.trace_lines.specs.Lines.{said};
-ghost use Rattle.trace_run.specs.Follow.{first_by, later_by, followed_by, follow_of};
+ghost use Rattle.trace_run.specs.Follow.{first_by, later_by, follow_of};
 
 use crate::write::write_step;
 use crate::writer::{evict_step, match_step, new_step};
-use numbers::arith::smaller;
 use trace_lines::{Command, read_line};
 use trace_readers::{Followed, Trace};
 
 // Before a line has made the writer.
-fn first_line(trace: Trace, c: Command) -> Followed
-    ensures { result ≡ first_by c trace }
+fn first_line(trace: Trace, command: Command) -> Followed
+    ensures { result ≡ first_by command trace }
 {
-    match c {
-        Command::New {
-            window,
-            backlog,
-            retain,
-            slots,
-        } => new_step(trace, window, backlog, retain, slots),
-        _ => trace.not_understood(),
-    }
+    let Command::New {
+        window,
+        backlog,
+        retain,
+        slots,
+    } = command
+    else {
+        return trace.not_understood();
+    };
+    new_step(trace, window, backlog, retain, slots)
 }
 
 // From then on.
 fn later_line(
     trace: Trace,
-    c: Command,
+    command: Command,
     numbers: &[u64],
     store: &mut [u8],
     large: &mut [u64],
     small: &mut [u64],
 ) -> Followed
-    ensures { Gives3 result store.new large.new small.new (later_by c numbers.now trace store.old large.old small.old) }
+    ensures { Gives3 result store.new large.new small.new (later_by command numbers.now trace store.old large.old small.old) }
 {
-    let start = 0;
-    match c {
+    match command {
+        Command::New { .. } => trace.not_understood(),
         Command::Match { reader } => match_step(trace, reader),
         Command::Write { len } => write_step(trace, len, store, large),
         Command::Ack {
@@ -45,34 +44,16 @@ fn later_line(
             base,
             count,
         } => {
-            let n = smaller(count, numbers.len());
-            trace.ack_step(reader, base, &numbers[start..n], large, small)
+            let n = count.min(numbers.len());
+            trace.ack_step(reader, base, &numbers[..n], large, small)
         }
         Command::Sent { reader, seq } => trace.sent_step(reader, seq, large),
         Command::Frag { reader, seq, count } => {
-            let n = smaller(count, numbers.len());
-            trace.frag_step(reader, seq, &numbers[start..n], large, small)
+            let n = count.min(numbers.len());
+            trace.frag_step(reader, seq, &numbers[..n], large, small)
         }
         Command::Evict { before } => evict_step(trace, before),
-        _ => trace.not_understood(),
     }
-}
-
-fn follow_in(
-    trace: Trace,
-    line: &[u8],
-    numbers: &mut [u64],
-    store: &mut [u8],
-    large: &mut [u64],
-    small: &mut [u64],
-) -> Followed
-    ensures { Gives3 result store.new large.new small.new (followed_by (said (length numbers.old) line.now) trace store.old large.old small.old) }
-{
-    let c = read_line(line, numbers);
-    if trace.started {
-        return later_line(trace, c, numbers, store, large, small);
-    }
-    first_line(trace, c)
 }
 
 // The line is answered, and the trace goes on from what comes back.
@@ -85,6 +66,13 @@ pub fn follow(
 ) -> Followed
     ensures { Gives3 result store.new large.new small.new (follow_of line.now trace store.old large.old small.old) }
 {
-    let mut numbers = [0u64; 256];
-    follow_in(trace, line, &mut numbers, store, large, small)
+    let mut numbers = [0; 256];
+    let Some(command) = read_line(line, &mut numbers) else {
+        return trace.not_understood();
+    };
+    if trace.started {
+        later_line(trace, command, &numbers, store, large, small)
+    } else {
+        first_line(trace, command)
+    }
 }

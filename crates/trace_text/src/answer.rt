@@ -8,21 +8,20 @@ pub fn put_byte(out: &mut [u8], at: usize, b: u8) -> usize
 {
     if at < out.len() {
         out[at] = b;
-        return at + 1;
+        at + 1
+    } else {
+        at
     }
-    at
 }
 
 pub fn put_text(out: &mut [u8], at: usize, text: &[u8]) -> usize
     ensures { Gives1 result out.new (put_of at text.now out.old) }
 {
-    let mut k = at;
-    let mut i = 0;
-    while i < text.len() {
-        k = put_byte(out, k, text[i]);
-        i += 1;
+    let mut at = at;
+    for b in text {
+        at = put_byte(out, at, *b);
     }
-    k
+    at
 }
 
 fn digit(d: u64) -> u8
@@ -59,22 +58,22 @@ pub fn put_field(out: &mut [u8], at: usize, key: &[u8], n: u64) -> usize
     put_number(out, k, n)
 }
 
+// The writer's figures: the newest number written, the oldest kept, and the first not acknowledged by all. Zeros until there is a writer.
+#[derive(Clone, Copy, Default)]
+pub struct Figures {
+    pub last: u64,
+    pub first: u64,
+    pub acked: u64,
+}
+
 // The line's number, its answer and the three figures, with the newline.
-pub fn put_answer(
-    out: &mut [u8],
-    at: usize,
-    line: u64,
-    answer: u64,
-    last: u64,
-    first: u64,
-    acked: u64,
-) -> usize
-    ensures { Gives1 result out.new (put_of at (answer_text line answer last first acked) out.old) }
+pub fn put_answer(out: &mut [u8], at: usize, line: u64, answer: u64, figures: Figures) -> usize
+    ensures { Gives1 result out.new (put_of at (answer_text line answer figures.last figures.first figures.acked) out.old) }
 {
     let k = put_number(out, at, line);
     let k = put_field(out, k, b" answer=", answer);
-    let k = put_field(out, k, b" last=", last);
-    let k = put_field(out, k, b" first=", first);
-    let k = put_field(out, k, b" acked=", acked);
+    let k = put_field(out, k, b" last=", figures.last);
+    let k = put_field(out, k, b" first=", figures.first);
+    let k = put_field(out, k, b" acked=", figures.acked);
     put_byte(out, k, 10)
 }

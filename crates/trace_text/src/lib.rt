@@ -4,5 +4,5 @@
 pub mod answer;
 pub mod lines;
 
-pub use answer::put_answer;
+pub use answer::{Figures, put_answer};
 pub use lines::{Cut, take_line};

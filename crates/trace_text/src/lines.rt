@@ -3,8 +3,8 @@ ghost use Rattle.std.specs.Prelude.{◌≡◌, ◌+◌, min, length, drop, set};
 ghost use Rattle.numbers.specs.Promise.{Gives1};
 ghost use Rattle.trace_text.specs.Cuts.{cut_of, held1};
 
-// How far a piece was taken, how many bytes of the line have come, and whether it has ended.
-#[derive(Clone, Copy)]
+// How far a piece was taken, how many bytes of the line have come, and whether it has ended. Both numbers stand in either case: no Option.
+#[derive(Clone, Copy, Default)]
 pub struct Cut {
     pub at: usize,
     pub held: usize,
@@ -17,32 +17,31 @@ pub fn put(line: &mut [u8], held: usize, b: u8) -> usize
 {
     if held < line.len() {
         line[held] = b;
-        return held + 1;
+        held + 1
+    } else {
+        line.len() + 1
     }
-    line.len() + 1
 }
 
 // From a place of the piece on, up to the line's end or the piece's.
 pub fn take_line(piece: &[u8], from: usize, line: &mut [u8], held: usize) -> Cut
     ensures { Gives1 result line.new (cut_of from (drop from piece.now) held line.old) }
 {
-    let mut n = held;
-    let mut i = from;
-    while i < piece.len() {
+    let mut held = held;
+    for i in from..piece.len() {
         let b = piece[i];
-        i += 1;
-        if b == 10 {
+        if b == b'\n' {
             return Cut {
-                at: i,
-                held: n,
+                at: i + 1,
+                held,
                 ended: true,
             };
         }
-        n = put(line, n, b);
+        held = put(line, held, b);
     }
     Cut {
-        at: i,
-        held: n,
+        at: from.max(piece.len()),
+        held,
         ended: false,
     }
 }

@@ -3,40 +3,25 @@ use Rattle.std.specs.Prelude.{ℕ, Bool, cond, ◌&&◌, List, [], ◌∷◌, �
 use Rattle.trace_lines.specs.Words.{bytes}
 use Rattle.trace_text.specs.Answers.{decimal}
 
--- "Numbers returned", 0 to 15, each with its meaning as it comes about in a trace. From 12 on,
-abbrev pub meaning12 : ℕ → List ℕ
-meaning12 n =
-    cond (eqb n 12) (bytes "ignored: the acknowledgement is ahead of what was written")
-    (cond (eqb n 13) (bytes "refused: a capacity or limit isn't allowed")
-    (cond (eqb n 14) (bytes "refused: there is nothing there")
-    (bytes "refused: the line isn't understood, or can't come here")))
-
--- from 8 on,
-abbrev pub meaning8 : ℕ → List ℕ
-meaning8 n =
-    cond (eqb n 8) (bytes "refused: the reader list is full, it has room for two")
-    (cond (eqb n 9) (bytes "refused: the gap set is full")
-    (cond (eqb n 10) (bytes "refused: fragments of 16 samples are asked for already")
-    (cond (eqb n 11) (bytes "refused: the reader id is 0, unknown, or already there")
-    (meaning12 n))))
-
--- from 4 on,
-abbrev pub meaning4 : ℕ → List ℕ
-meaning4 n =
-    cond (eqb n 4) (bytes "refused: the payload is longer than a slot of 16 bytes")
-    (cond (eqb n 5) (bytes "refused: the sequence numbers are used up")
-    (cond (eqb n 6) (bytes "refused: the write would block, since the window or the backlog is full")
-    (cond (eqb n 7) (bytes "refused: the store is full")
-    (meaning8 n))))
-
--- and all
+-- "Numbers returned", 0 to 15, each with its meaning as it comes about in a trace
 abbrev pub meaning : ℕ → List ℕ
 meaning n =
     cond (eqb n 0) (bytes "done")
     (cond (eqb n 1) (bytes "refused: a record or buffer isn't coherent")
     (cond (eqb n 2) (bytes "refused: a number is out of its range")
     (cond (eqb n 3) (bytes "refused: the set spans more than 256 numbers")
-    (meaning4 n))))
+    (cond (eqb n 4) (bytes "refused: the payload is longer than a slot of 16 bytes")
+    (cond (eqb n 5) (bytes "refused: the sequence numbers are used up")
+    (cond (eqb n 6) (bytes "refused: the write would block, since the window or the backlog is full")
+    (cond (eqb n 7) (bytes "refused: the store is full")
+    (cond (eqb n 8) (bytes "refused: the reader list is full, it has room for two")
+    (cond (eqb n 9) (bytes "refused: the gap set is full")
+    (cond (eqb n 10) (bytes "refused: fragments of 16 samples are asked for already")
+    (cond (eqb n 11) (bytes "refused: the reader id is 0, unknown, or already there")
+    (cond (eqb n 12) (bytes "ignored: the acknowledgement is ahead of what was written")
+    (cond (eqb n 13) (bytes "refused: a capacity or limit isn't allowed")
+    (cond (eqb n 14) (bytes "refused: there is nothing there")
+    (bytes "refused: the line isn't understood, or can't come here")))))))))))))))
 
 -- what is kept
 abbrev pub kept : ℕ → ℕ → List ℕ

@@ -6,6 +6,7 @@ ghost use Rattle.trace_words.specs.Words.{heading, answer_words, explained};
 use crate::figures::put_figures;
 use crate::meaning::put_meaning;
 use crate::shown::{put_line, put_rest};
+use trace_text::Figures;
 use trace_text::answer::{put_byte, put_field, put_text};
 
 fn put_heading(out: &mut [u8], at: usize, lines: u64, line: &[u8], long: bool) -> usize
@@ -20,7 +21,7 @@ fn put_heading(out: &mut [u8], at: usize, lines: u64, line: &[u8], long: bool) -
 fn put_numbered(out: &mut [u8], at: usize, number: u32) -> usize
     ensures { Gives1 result out.new (put_of at (answer_words number) out.old) }
 {
-    let k = put_field(out, at, b"\n    answer ", number as u64);
+    let k = put_field(out, at, b"\n    answer ", u64::from(number));
     let k = put_text(out, k, b", ");
     put_meaning(out, k, number)
 }
@@ -32,15 +33,13 @@ pub fn put_explained(
     line: &[u8],
     long: bool,
     answer: u32,
-    last: u64,
-    first: u64,
-    acked: u64,
+    told: Figures,
 ) -> usize
-    ensures { Gives1 result out.new (put_of at (explained lines line.now long answer last first acked) out.old) }
+    ensures { Gives1 result out.new (put_of at (explained lines line.now long answer told.last told.first told.acked) out.old) }
 {
     let k = put_heading(out, at, lines, line, long);
     let k = put_numbered(out, k, answer);
     let k = put_text(out, k, b"\n    ");
-    let k = put_figures(out, k, last, first, acked);
+    let k = put_figures(out, k, told);
     put_byte(out, k, 10)
 }

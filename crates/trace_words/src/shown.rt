@@ -10,31 +10,25 @@ use trace_text::answer::{put_byte, put_text};
 fn seen(b: u8) -> u8
     ensures { result ≡ shown_byte b }
 {
-    if (32 <= b) & (b < 127) {
-        return b;
+    match b {
+        32..127 => b,
+        _ => b'.',
     }
-    b'.'
 }
 
 pub fn put_line(out: &mut [u8], at: usize, line: &[u8]) -> usize
     ensures { Gives1 result out.new (put_of at (shown line.now) out.old) }
 {
-    let mut k = at;
-    let mut i = 0;
-    while i < line.len() {
-        let b = seen(line[i]);
-        k = put_byte(out, k, b);
-        i += 1;
+    let mut at = at;
+    for b in line {
+        at = put_byte(out, at, seen(*b));
     }
-    k
+    at
 }
 
 // Dots for the rest of a line that is too long.
 pub fn put_rest(out: &mut [u8], at: usize, long: bool) -> usize
     ensures { Gives1 result out.new (put_of at (dots long) out.old) }
 {
-    if long {
-        return put_text(out, at, b"...");
-    }
-    at
+    if long { put_text(out, at, b"...") } else { at }
 }

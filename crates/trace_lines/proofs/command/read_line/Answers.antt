@@ -1,39 +1,37 @@
--- A line that is too long says nothing; of any other the first of three that says something.
-use Rattle.std.proofs.Common.{ℕ, length, refl, subst, ◌∙◌}
-use Rattle.numbers.specs.Promise.{Gives1}
-use Rattle.trace_lines.specs.Lines.{unknown, or_else, plain_said, ack_said, frag_said, said, command_left}
-use Rattle.trace_lines.proofs.LineLaws.{first-is, first_not, plain_none, cleared, short_is, long_is, given_as}
+-- A line that is too long says nothing; of any other, the numbers stand at the start of the room.
+use Rattle.std.proofs.Common.{◌≡◌, ◌-◌, length, refl, rules}
+use native.Mathlib.Nat.{sub-zero}
+use lib.ListN.{replicate}
+use Rattle.trace_lines.specs.Lines.{unknown, said, line_said}
+use Rattle.trace_lines.proofs.LineLaws.{held_fits, cleared, short_is, long_is, given_as}
 use Rattle.trace_lines.proofs.command.read_line.Goals as goal
 
 pub returns-then-s-gt512 : goal.returns-then-s-gt512
 returns-then-s-gt512 c =
     let s = c.args.s.now in
     let n = length c.args.room.now in
-    given_as n unknown (said n s) (long_is n s c.if-s-gt512.true) (cleared n unknown _ c.clear.ensures refl)
+    let e : c.fill.new.self ≡ replicate n 0 = search rules in
+    given_as n unknown (said n s) (long_is n s c.if-s-gt512.true) (record { result = refl; first = rw (sub-zero n) e })
 
-pub returns-then-is_known : goal.returns-then-is_known
-returns-then-is_known c =
-    let s = c.args.s.now in
-    let n = length c.args.room.now in
-    let e = first-is (plain_said s) (or_else (ack_said n s) (frag_said n s)) _ _ c.plain_line-c.ensures c.is_known.ensures c.if-is_known.true in
-    rw c.plain_line-c.ensures (given_as n (plain_said s) (said n s) (e ∙ short_is n s c.if-s-gt512.false) (cleared n (plain_said s) _ c.clear-then-is_known.ensures (plain_none s)))
+pub offset_bounds-room-held : goal.offset_bounds-room-held
+offset_bounds-room-held c =
+    let h = held_fits _ c.line-command.result c.line-command.new.room c.line-command.ensures c.count-held.result c.count-held.ensures in
+    search rules
 
-pub returns-then-is_known-2 : goal.returns-then-is_known-2
-returns-then-is_known-2 c =
-    let s = c.args.s.now in
-    let n = length c.args.room.now in
-    let q = c.ack_line-c in
-    let e = first_not (plain_said s) (or_else (ack_said n s) (frag_said n s)) _ _ c.plain_line-c.ensures c.is_known.ensures c.if-is_known.false in
-    let f = first-is (ack_said n s) (frag_said n s) _ _ q.ensures.result c.is_known-2.ensures c.if-is_known-2.true in
-    given_as n (ack_said n s) (said n s) (f ∙ e ∙ short_is n s c.if-s-gt512.false) q.ensures
+pub slice_bounds-fill-count : goal.slice_bounds-fill-count
+slice_bounds-fill-count c =
+    held_fits _ c.line-command.result c.line-command.new.room c.line-command.ensures c.count-held.result c.count-held.ensures
+
+pub slice_bounds-fill-start : goal.slice_bounds-fill-start
+slice_bounds-fill-start c =
+    let h = held_fits _ c.line-command.result c.line-command.new.room c.line-command.ensures c.count-held.result c.count-held.ensures in
+    search rules
 
 pub returns : goal.returns
 returns c =
     let s = c.args.s.now in
     let n = length c.args.room.now in
-    let q = c.ack_line-c in
-    let r = c.frag_line in
-    let e = first_not (plain_said s) (or_else (ack_said n s) (frag_said n s)) _ _ c.plain_line-c.ensures c.is_known.ensures c.if-is_known.false in
-    let f = first_not (ack_said n s) (frag_said n s) _ _ q.ensures.result c.is_known-2.ensures c.if-is_known-2.false in
-    given_as n (frag_said n s) (said n s) (f ∙ e ∙ short_is n s c.if-s-gt512.false)
-    (subst (λ (m : ℕ). Gives1 r.result r.new.room (command_left m (frag_said m s))) q.auto.room r.ensures)
+    let line = c.line-command in
+    let e : c.fill-2.new.self ≡ replicate (length line.new.room - c.count-held.result) 0 = search rules in
+    given_as n (line_said n s) (said n s) (short_is n s c.if-s-gt512.false)
+    (cleared (line_said n s) line.result line.new.room line.ensures c.count-held.result c.count-held.ensures n c.fill-2.new.self line.auto.room e)

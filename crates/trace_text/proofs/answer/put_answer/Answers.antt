@@ -9,9 +9,9 @@ pub returns : goal.returns
 returns c =
     let a = c.args in
     let answer = bytes " answer=" ++ decimal a.answer in
-    let last = bytes " last=" ++ decimal a.last in
-    let first = bytes " first=" ++ decimal a.first in
-    let acked = bytes " acked=" ++ decimal a.acked in
+    let last = bytes " last=" ++ decimal a.figures.last in
+    let first = bytes " first=" ++ decimal a.figures.first in
+    let acked = bytes " acked=" ++ decimal a.figures.acked in
     let newline = 10 ∷ [] in
     puts a.at _ _ (decimal a.line) (answer ++ (last ++ (first ++ (acked ++ newline)))) a.out.now _ _ c.put_number-k.ensures
     (puts c.put_number-k.result _ _ answer (last ++ (first ++ (acked ++ newline))) c.put_number-k.new.out _ _ c.put_field-k.ensures

@@ -1,11 +1,7 @@
-use Prim.Native.Nat.{◌-◌, ◌≤◌}
-use mathlib.Core.Path.{◌≡◌}
-use lib.ListN.{length, drop}
+-- What is left of the text goes where what is put so far ends.
+use Rattle.std.proofs.Common.{◌≡◌, length, drop}
 use Rattle.trace_text.specs.Answers.{put_of}
 use Rattle.trace_text.proofs.answer.put_text.Given as goal
 
-abbrev pub invariant-loop-i : goal.invariant-loop-i
-invariant-loop-i l = (l.i ≤ length l.text) × ((length l.out ≡ length l.initial.out) × (put_of l.k (drop l.i l.text) l.out ≡ put_of l.at l.text l.initial.out))
-
-abbrev pub decreases-loop-i : goal.decreases-loop-i
-decreases-loop-i l = length l.text - l.i
+abbrev pub invariant-loop-b : goal.invariant-loop-b
+invariant-loop-b l = (length l.out ≡ length l.initial.out) × (put_of l.at (drop l.b-index l.text) l.out ≡ put_of l.initial.at l.text l.initial.out)

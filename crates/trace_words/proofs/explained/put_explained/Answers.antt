@@ -10,7 +10,7 @@ returns c =
     let a = c.args in
     let answer = answer_words a.answer in
     let indent = 10 ∷ bytes "    " in
-    let shown = figures a.last a.first a.acked in
+    let shown = figures a.told.last a.told.first a.told.acked in
     let newline = 10 ∷ [] in
     puts a.at _ _ (heading a.lines a.line.now a.long) (answer ++ (indent ++ (shown ++ newline))) a.out.now _ _ c.put_heading-k.ensures
     (puts c.put_heading-k.result _ _ answer (indent ++ (shown ++ newline)) c.put_heading-k.new.out _ _ c.put_numbered-k.ensures

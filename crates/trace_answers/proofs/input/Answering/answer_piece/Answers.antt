@@ -7,14 +7,14 @@ pub loop-line-smaller : goal.loop-line-smaller
 loop-line-smaller c =
     let a = c.args in
     let l = c.loop-line in
-    let s = c.answer_line-r in
-    let more = more_there l.r a.piece.now l.out (sym c.goes_on.ensures ∙ c.loop-line-test.true) in
-    let on = line_goes l.r s.result a.piece.now l.line l.out l.store l.large l.small s.new.line s.new.out s.new.store s.new.large s.new.small more s.ensures in
+    let s = c.answer_line-answering in
+    let more = more_there l.answering a.piece.now l.out (sym c.goes_on.ensures ∙ c.loop-line-test.true) in
+    let on = line_goes l.answering s.result a.piece.now l.line l.out l.store l.large l.small s.new.line s.new.out s.new.store s.new.large s.new.small more s.ensures in
     omega arith
 
 pub loop-line-preserved : goal.loop-line-preserved
 loop-line-preserved c =
-    let s = c.answer_line-r in
+    let s = c.answer_line-answering in
     going_next c.args.piece.now _ _ s.result s.new.line s.new.out s.new.store s.new.large s.new.small (sym c.goes_on.ensures ∙ c.loop-line-test.true) c.loop-line.invariant s.ensures
 
 pub returns : goal.returns

@@ -1,6 +1,0 @@
--- The bytes that are left.
-use Rattle.std.proofs.Common.{length, ◌-◌}
-use Rattle.trace.proofs.same.Given as goal
-
-abbrev pub decreases-loop-i : goal.decreases-loop-i
-decreases-loop-i l = length l.a - l.i
