@@ -1,7 +1,6 @@
 -- The last of a rising run tells of all of it: what is above it joins at the end. Assumes nothing.
-use Rattle.std.proofs.Common.{◌≡◌, ℕ, zero, suc, ◌+◌, ◌-◌, ◌<◌, ◌≤◌, max, Bool, true, false, cond, ◌&&◌, ◌||◌, eqb, ltb, List, [], ◌∷◌, ◌++◌, length, get_or, take, drop, set, replicate, sym, refl, ap, ◌∙◌, subst, append_assoc, lt_irrefl, arith, length-append, length-take-le, ltb-true, le-ltb, eq-eqb, ne_eqb, eqb-true}
+use Rattle.std.proofs.Common.{◌≡◌, ℕ, zero, suc, ◌+◌, ◌-◌, ◌<◌, ◌≤◌, max, Bool, true, false, cond, ◌&&◌, ◌||◌, eqb, ltb, List, [], ◌∷◌, ◌++◌, length, get_or, take, drop, set, replicate, sym, refl, ap, ◌∙◌, subst, append_assoc, lt_irrefl, arith, length-append, length-take-le, get_or-take, ltb-true, le-ltb, eq-eqb, ne_eqb, eqb-true}
 use mathlib.Core.Bool.{false≢true}
-use native.Mathlib.Nat.{not-suc-le-zero}
 use lib.Seq.{set_split}
 use Rattle.sets.specs.Sets.{has, From, insert, largest}
 use Rattle.sets.proofs.Bools.{and_left, and_right}
@@ -9,12 +8,6 @@ use Rattle.numbers.specs.Promise.{Left1, Gives1}
 use Rattle.rising.specs.Runs.{run_coherent, in_room, newest, over, run_with}
 use Rattle.rising.proofs.Rooms.{changed}
 use Rattle.rising.proofs.Meaning.{RunIs, run_is}
-
-get_d_take : (c : ℕ) (a : List ℕ) (i : ℕ) → i < c → get_or (take c a) i 0 ≡ get_or a i 0
-get_d_take zero a i h = absurd (not-suc-le-zero h)
-get_d_take (suc c) [] i h = refl
-get_d_take (suc c) (x ∷ xs) zero h = refl
-get_d_take (suc c) (x ∷ xs) (suc i) h = get_d_take c xs i (omega arith)
 
 -- none is above the last
 last-most : (b : ℕ) (l : List ℕ) (n : ℕ) → From b l → has l n ≡ true → n ≤ get_or l (length l - 1) 0
@@ -54,7 +47,7 @@ run-most zero a r m e = absurd (false≢true e)
 run-most (suc c) a r m e =
     let l : length (take (suc c) a) ≡ suc c = length-take-le (suc c) a r.fits in
     let i : length (take (suc c) a) - 1 ≡ suc c - 1 = omega (arith, l) in
-    subst (λ (x : ℕ). m ≤ x) (ap (λ (j : ℕ). get_or (take (suc c) a) j 0) i ∙ get_d_take (suc c) a (suc c - 1) (omega arith)) (last-most 1 (take (suc c) a) m r.rises.from e)
+    subst (λ (x : ℕ). m ≤ x) (ap (λ (j : ℕ). get_or (take (suc c) a) j 0) i ∙ get_or-take (suc c) a (suc c - 1) 0 (omega arith)) (last-most 1 (take (suc c) a) m r.rises.from e)
 
 -- n is above all: it stands in the first free place
 pub appended : (c n : ℕ) (a : List ℕ) → run_coherent 0 c a ≡ true → get_or a (c - 1) 0 < n → c < length a → Gives1 (c + 1) (set a c n) (in_room (newest (length a) n) c a)

@@ -85,10 +85,6 @@ module _ (f : List ℕ → List ℕ) (c : ℕ) (a : List ℕ) where
       go true q = let h = leb-true c (length a) q in changed h c a (sym (length-take-le c a h) ∙ ap length (sym e)) (room-same c a h ∙ ap (over a c) (sym e))
       go false q = past_room (leb-false c (length a) q)
 
--- by a cut
-cut_past : (i k : ℕ) (l : List ℕ) → length l ≤ i → cut_out i k l ≡ l
-cut_past i k l h = rw (take_all i l h, done l (i + k) (omega arith), append-nil)
-
 cut_most : (i k gone : ℕ) (l : List ℕ) → gone ≡ min k (length l - i) → drop (i + gone) l ≡ drop (i + k) l
 cut_most i k gone l e = go (leb k (length l - i)) refl
   where

@@ -1,4 +1,5 @@
 // A run of `count` numbers at the start of a slice of any length, the rest of which is room. A count past the room changes nothing.
+// C lends a room and keeps its count in a record of its own, so the two come and go apart: a struct of both would be made and taken apart for each call.
 ghost use Rattle.std.specs.Prelude.{◌≡◌, ◌+◌, ◌-◌, ◌<◌, ◌≤◌, length, take, get_or};
 ghost use Rattle.std.specs.List.{slice_get};
 ghost use Rattle.sets.specs.Sets.{has, smallest};

