@@ -1,5 +1,5 @@
 -- Eight words and their bits: words are told apart by their bits, and those made from a test have the bits that it passes. Assumes nothing.
-use Prim.Native.Nat.{ℕ, zero, suc, ◌+◌, ◌-◌, ◌*◌, ◌/◌, ◌%◌, ◌^◌, ◌≤◌, ◌<◌, min}
+use Prim.Native.Nat.{ℕ, zero, suc, ◌+◌, ◌-◌, ◌*◌, ◌/◌, ◌%◌, ◌^◌, ◌≤◌, ◌<◌}
 use mathlib.Core.Path.{◌≡◌, refl, sym, ap, subst, ◌∙◌}
 use mathlib.Core.Bool.{Bool, true, false, cond, ◌&&◌}
 use mathlib.Core.List.{List, ◌∷◌}
@@ -14,7 +14,10 @@ use Rattle.sets.specs.Sets.{has, only, those}
 use Rattle.sets.proofs.Bools.{decide, and_no}
 use Rattle.sets.proofs.Has.{has-only, From-only}
 use Rattle.sets.proofs.Those.{From-those, has_those_is}
-use Rattle.sets.proofs.First.{first-is, first-none}
+use Rattle.std.specs.Prelude.{None}
+use Rattle.std.specs.Bool.{then_some}
+use Rattle.sets.proofs.First.{first-is, empty-none, empty-some}
+use Rattle.number_sets.proofs.First.{first_none, first_some}
 use Rattle.number_sets.specs.Bits.{bit_of, bit_at, next_bit, word_of, words_of, eight_words}
 use Rattle.number_sets.proofs.Bit.{digit, digit_zero}
 
@@ -204,20 +207,20 @@ module _ (ws : List ℕ) (k c : ℕ) where
       go (inl e) (inr g) = rw (e, g, and_no (leb 0 m)) refl
       go (inl e) (inl g) = rw (f (leb-true c m e) (omega (arith, ltb-true m (0 + k) g)), and_no (leb 0 m && ltb m (0 + k)), and_no (leb c m)) refl
 
-  pub next_bit_none : ((m : ℕ) → c ≤ m → m < k → bit_at ws m ≡ false) → k ≡ next_bit ws k c
-  next_bit_none f = sym (first-none k (only (leb c) (those k 0 (bit_at ws))) (λ m. off m (f m)))
+  pub next_bit_none : ((m : ℕ) → c ≤ m → m < k → bit_at ws m ≡ false) → None ≡ next_bit ws k c
+  next_bit_none f = sym (first_none (only (leb c) (those k 0 (bit_at ws))) (empty-none (only (leb c) (those k 0 (bit_at ws))) (λ m. off m (f m))))
 
-  pub next_bit_is : (r : ℕ) → c ≤ r → bit_at ws r ≡ true → ((m : ℕ) → c ≤ m → m < r → bit_at ws m ≡ false) → min r k ≡ next_bit ws k c
+  pub next_bit_is : (r : ℕ) → c ≤ r → bit_at ws r ≡ true → ((m : ℕ) → c ≤ m → m < r → bit_at ws m ≡ false) → then_some (ltb r k) r ≡ next_bit ws k c
   next_bit_is r l e f = go (decide (ltb r k))
     where
-      go : (ltb r k ≡ true) ⊎ (ltb r k ≡ false) → min r k ≡ next_bit ws k c
+      go : (ltb r k ≡ true) ⊎ (ltb r k ≡ false) → then_some (ltb r k) r ≡ next_bit ws k c
       go (inl g) =
           let h : r < k = ltb-true r k g in
-          let m : min r k ≡ r = omega arith in
           let here : has (only (leb c) (those k 0 (bit_at ws))) r ≡ true =
           has_left r ∙ rw (le-leb c r l, le-leb 0 r (omega arith), lt-ltb r (0 + k) (omega arith), e) refl in
-          m ∙ sym (first-is k 0 r (only (leb c) (those k 0 (bit_at ws))) (From-only 0 (leb c) (those k 0 (bit_at ws)) (From-those k 0 (bit_at ws))) here (λ m q. off m (λ a b. f m a q)))
+          ap (λ (t : Bool). then_some t r) g
+          ∙ sym (first_some r (only (leb c) (those k 0 (bit_at ws))) (empty-some r (only (leb c) (those k 0 (bit_at ws))) here)
+          (first-is 0 0 r (only (leb c) (those k 0 (bit_at ws))) (From-only 0 (leb c) (those k 0 (bit_at ws)) (From-those k 0 (bit_at ws))) here (λ m q. off m (λ a b. f m a q))))
       go (inr g) =
           let h : k ≤ r = ltb-false r k g in
-          let m : min r k ≡ k = omega arith in
-          m ∙ next_bit_none (λ m a b. f m a (omega arith))
+          ap (λ (t : Bool). then_some t r) g ∙ next_bit_none (λ m a b. f m a (omega arith))

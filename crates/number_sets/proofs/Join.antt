@@ -1,6 +1,6 @@
 -- The numbers that join a set, one by one. Assumes nothing.
-use Prim.Native.Nat.{ℕ, zero, suc, ◌+◌, ◌-◌, ◌/◌, ◌%◌, ◌^◌, ◌≤◌, ◌<◌, min, max}
-use mathlib.Core.Path.{◌≡◌, refl, sym, ap, subst, ◌∙◌}
+use Prim.Native.Nat.{ℕ, zero, suc, ◌+◌, ◌-◌, ◌/◌, ◌%◌, ◌^◌, ◌≤◌, ◌<◌, max}
+use mathlib.Core.Path.{◌≡◌, refl, sym, ap, ◌∙◌}
 use mathlib.Core.Bool.{Bool, true, false, cond, ◌&&◌, ◌||◌}
 use mathlib.Core.List.{List, [], ◌∷◌}
 use mathlib.Core.Logic.{◌⊎◌, inl, inr}
@@ -16,9 +16,10 @@ use borrow.Author.Tests.{eqb-true, eqb-false, ne_eqb, ltb-true, ltb-false, leb-t
 use Rattle.sets.specs.Sets.{has}
 use Rattle.sets.proofs.Bools.{decide, or_assoc, or_no}
 use Rattle.number_sets.specs.Bits.{bit_of, bit_at, eight_words, in_window, span}
+use Rattle.std.specs.Prelude.{Some, None}
 use Rattle.number_sets.specs.Words.{place_in}
 use Rattle.number_sets.proofs.Bit.{digit}
-use Rattle.number_sets.proofs.Eight.{Eight, eqb_same, words_are, bit_of_lem, eight_words_lem}
+use Rattle.number_sets.proofs.Eight.{Eight, eqb_same, words_are, bit_of_lem}
 
 -- bit j of 2 ^ k
 pub one_bit : (k j : ℕ) → 2 ^ k / 2 ^ j % 2 ≡ cond (eqb j k) 1 0
@@ -98,27 +99,30 @@ pub record Joining (q : ℕ → Bool) (c b : ℕ) (ns : List ℕ) (count : ℕ) 
   pub counts : max c (span b (in_window b ns)) ≡ max count (span b (in_window b (drop i ns)))
   pub bits : (k : ℕ) → k < 256 → (q k || has ns (b + k)) ≡ (bit_at words k || has (drop i ns) (b + k))
 
-pub joining_start : (c b : ℕ) (ns ws : List ℕ) (p : ℕ → Bool) → ws ≡ eight_words p → c < 2 ^ 32 → Joining (bit_at ws) c b ns c ws 0
-joining_start c b ns ws p e h = record { eight = subst Eight (sym e) (eight_words_lem p); small = h; counts = refl; bits = λ k u. refl }
-
 -- the number at i, and those after it
 next-left : (ns : List ℕ) (i : ℕ) → i < length ns → drop i ns ≡ get_or ns i 0 ∷ drop (i + 1) ns
 next-left ns i h = rw (add-one, drop-cons ns i 0)
 
--- a place below 256 is that of a number in the window, and any other number is outside it
-placed : (b n p : ℕ) → p ≡ place_in b n → p < 256 → n ≡ b + p
-placed b n p e l = go (decide (leb b n))
-  where
-    go : (leb b n ≡ true) ⊎ (leb b n ≡ false) → n ≡ b + p
-    go (inl f) = omega (arith, leb-true b n f, e ∙ ap (λ (t : Bool). cond t (min (n - b) 256) 256) f)
-    go (inr f) = absurd (omega (arith, e ∙ ap (λ (t : Bool). cond t (min (n - b) 256) 256) f))
+-- a number has a place if it lies in the window
+module _ (b n : ℕ) where
+  place_cases : (t u : Bool) → leb b n ≡ t → ltb n (b + 256) ≡ u → (p : ℕ) → cond (t && u) (Some (n - b)) None ≡ Some p → (n ≡ b + p) × (p < 256)
+  place_cases true true e f p z =
+      let s : n - b ≡ p = cc in
+      let lo = leb-true b n e in
+      let hi = ltb-true n (b + 256) f in (omega arith, omega arith)
+  place_cases true false e f p z = cc
+  place_cases false u e f p z = cc
 
-unplaced : (b n p : ℕ) → p ≡ place_in b n → 256 ≤ p → (n < b) ⊎ (b + 256 ≤ n)
-unplaced b n p e l = go (decide (leb b n))
-  where
-    go : (leb b n ≡ true) ⊎ (leb b n ≡ false) → (n < b) ⊎ (b + 256 ≤ n)
-    go (inl f) = inr (omega (arith, leb-true b n f, e ∙ ap (λ (t : Bool). cond t (min (n - b) 256) 256) f))
-    go (inr f) = inl (leb-false b n f)
+  placed : (p : ℕ) → place_in b n ≡ Some p → (n ≡ b + p) × (p < 256)
+  placed p e = place_cases (leb b n) (ltb n (b + 256)) refl refl p e
+
+  unplaced : place_in b n ≡ None → (n < b) ⊎ (b + 256 ≤ n)
+  unplaced e = go (leb b n) refl (ltb n (b + 256)) refl e
+    where
+      go : (t : Bool) → leb b n ≡ t → (u : Bool) → ltb n (b + 256) ≡ u → cond (t && u) (Some (n - b)) None ≡ None → (n < b) ⊎ (b + 256 ≤ n)
+      go false f u g z = inl (leb-false b n f)
+      go true f false g z = inr (ltb-false n (b + 256) g)
+      go true f true g z = cc
 
 outside : (b n : ℕ) → (n < b) ⊎ (b + 256 ≤ n) → (leb b n && leb n (b + 255)) ≡ false
 outside b n (inl h) = rw (lt-leb b n h) refl
@@ -131,9 +135,9 @@ module _ (q : ℕ → Bool) (c b : ℕ) (ns : List ℕ) (count : ℕ) (words : L
   bits-on : (k : ℕ) → k < 256 → (q k || has ns (b + k)) ≡ (bit_at words k || (eqb (get_or ns i 0) (b + k) || has (drop (i + 1) ns) (b + k)))
   bits-on k w = h.bits k w ∙ ap (λ (l : List ℕ). bit_at words k || has l (b + k)) (next-left ns i u)
 
-  pub joining_skip : (p : ℕ) → p ≡ place_in b (get_or ns i 0) → 256 ≤ p → Joining q c b ns count words (i + 1)
-  joining_skip p e l =
-      let o = unplaced b (get_or ns i 0) p e l in
+  pub joining_skip : place_in b (get_or ns i 0) ≡ None → Joining q c b ns count words (i + 1)
+  joining_skip e =
+      let o = unplaced b (get_or ns i 0) e in
       let w = in_window b (drop (i + 1) ns) in
       record {
         eight = h.eight;
@@ -146,9 +150,10 @@ module _ (q : ℕ → Bool) (c b : ℕ) (ns : List ℕ) (count : ℕ) (words : L
       off k v (inl w) z = omega arith
       off k v (inr w) z = omega arith
 
-  pub joining_set : (p : ℕ) → p ≡ place_in b (get_or ns i 0) → p < 256 → Joining q c b ns (max count (p + 1)) (with_bit words p) (i + 1)
-  joining_set p e l =
-      let a : get_or ns i 0 ≡ b + p = placed b (get_or ns i 0) p e l in
+  pub joining_set : (p : ℕ) → place_in b (get_or ns i 0) ≡ Some p → Joining q c b ns (max count (p + 1)) (with_bit words p) (i + 1)
+  joining_set p e =
+      let a : get_or ns i 0 ≡ b + p = (placed b (get_or ns i 0) p e).0 in
+      let l : p < 256 = (placed b (get_or ns i 0) p e).1 in
       let w = in_window b (drop (i + 1) ns) in
       let t : (leb b (get_or ns i 0) && leb (get_or ns i 0) (b + 255)) ≡ true = rw (le-leb b (get_or ns i 0) (omega arith), le-leb (get_or ns i 0) (b + 255) (omega arith)) refl in
       let m : max count (max (suc (get_or ns i 0) - b) (span b (in_window b (drop (i + 1) ns)))) ≡ max (max count (p + 1)) (span b (in_window b (drop (i + 1) ns))) = omega arith in

@@ -1,5 +1,6 @@
 -- Laws that belong to no one function.
 pub mod Bit
+pub mod First
 pub mod Eight
 pub mod Loops
 pub mod Size

@@ -1,21 +1,22 @@
 -- The members laid into a room, one by one. Assumes nothing.
 use Prim.Native.Nat.{ℕ, ◌+◌, ◌-◌, ◌≤◌, ◌<◌}
 use mathlib.Core.Path.{◌≡◌, refl, sym, ap, ◌∙◌}
-use mathlib.Core.Bool.{Bool, true, false, ◌||◌}
+use mathlib.Core.Bool.{Bool, true, false, true≢false}
 use mathlib.Core.List.{List, [], ◌∷◌, ◌++◌, append-nil}
 use mathlib.Core.Logic.{inl, inr}
 use native.Mathlib.Omega.{arith}
-use lib.Dec.{ltb, leb}
+use lib.Dec.{ltb}
 use borrow.Author.Tests.{ltb-true, ltb-false}
-use Rattle.sets.proofs.Bools.{decide, or_assoc, or_no}
+use Rattle.sets.proofs.Bools.{decide}
 use native.Mathlib.Numerals.{add-one}
 use lib.ListN.{length, take, drop, get_or, set, length-set, length-append, drop_of_length-le}
 use lib.Seq.{drop-cons, set_at, append_snoc, take-nil, take_all, take-append-le}
 use Rattle.sets.proofs.Those.{single, those_snoc, those-append, those-none, those-length}
-use Rattle.number_sets.specs.Bits.{bit_at, marked}
+use Rattle.number_sets.specs.Bits.{bit_at, next_bit, marked}
 use Rattle.rising.specs.Runs.{filled}
-use Rattle.number_sets.specs.Calls.{some_below, some_from}
-use Rattle.number_sets.proofs.Members.{NextIs}
+use Rattle.std.specs.Prelude.{Some, None}
+use Rattle.number_sets.proofs.Eight.{bit_past}
+use Rattle.number_sets.proofs.Members.{NextIs, next_bit_gone, next_bit_some}
 
 -- a room, with one number more
 filled_in : (l room : List ℕ) (n : ℕ) → length l < length room → set (filled l room) (length l) n ≡ filled (l ++ (n ∷ [])) room
@@ -51,10 +52,9 @@ marked_one b i ws e =
     ∙ ap (λ (n : ℕ). marked i b ws ++ single (bit_at ws n) (b + i)) z
     ∙ ap (λ (t : Bool). marked i b ws ++ single t (b + i)) e
 
--- THE LOOP: the members before place i stand in the room, and place i is one
+-- THE LOOP: the members before place i stand in the room
 pub record Listing (b count : ℕ) (ws out₀ out : List ℕ) (k i : ℕ) : Type 0 where
   pub most : i ≤ count
-  pub here : i < count → bit_at ws i ≡ true
   pub counted : k ≡ length (marked i b ws)
   pub long : length out ≡ length out₀
   pub laid : out ≡ filled (marked i b ws) out₀
@@ -62,71 +62,45 @@ pub record Listing (b count : ℕ) (ws out₀ out : List ℕ) (k i : ℕ) : Type
 pub listing_few : (b count : ℕ) (ws out₀ out : List ℕ) (k i : ℕ) → Listing b count ws out₀ out k i → k ≤ i
 listing_few b count ws out₀ out k i h = omega (arith, h.counted, those-length i b (λ n. bit_at ws (n - b)))
 
-pub listing_start : (b count : ℕ) (ws out : List ℕ) (i : ℕ) → NextIs ws count 0 i → Listing b count ws out out 0 i
-listing_start b count ws out i n =
-    let e : marked i b ws ≡ [] = marked_skip b 0 i ws (omega arith) (λ m a u. n.none m a u) in
-    record {
-      most = n.most;
-      here = λ u. (n.here u).1;
-      counted = sym (ap length e);
-      long = refl;
-      laid = sym (ap (λ (l : List ℕ). filled l out) e ∙ ap (λ (l : List ℕ). l ++ out) (take-nil (length out)));
-    }
+pub listing_start : (b count : ℕ) (ws out : List ℕ) → Listing b count ws out out 0 0
+listing_start b count ws out =
+    record { most = omega arith; counted = refl; long = refl; laid = sym (ap (λ (l : List ℕ). l ++ out) (take-nil (length out))) }
 
-module _ (b count : ℕ) (ws out₀ out : List ℕ) (k i : ℕ) (h : Listing b count ws out₀ out k i) (u : i < count) (j : ℕ) (next : NextIs ws count (i + 1) j) where
-  pub listing_on : i + 1 ≤ j
-  listing_on = elim (decide (ltb j count)) [ inl e ↦ (next.here (ltb-true j count e)).0 | inr e ↦ omega (arith, ltb-false j count e) ]
+module _ (b count : ℕ) (ws out₀ out : List ℕ) (k i : ℕ) (h : Listing b count ws out₀ out k i) where
+  module _ (j : ℕ) (e : next_bit ws count i ≡ Some j) where
+    next : NextIs ws count i j
+    next = next_bit_some ws count i j e
 
-  more : marked j b ws ≡ marked i b ws ++ ((b + i) ∷ [])
-  more = marked_skip b (i + 1) j ws listing_on next.none ∙ marked_one b i ws (h.here u)
+    more : marked (j + 1) b ws ≡ marked i b ws ++ ((b + j) ∷ [])
+    more = marked_one b j ws next.bit ∙ ap (λ (l : List ℕ). l ++ ((b + j) ∷ [])) (marked_skip b i j ws next.low next.none)
 
-  counted-on : k + 1 ≡ length (marked j b ws)
-  counted-on = sym (ap length more ∙ length-append (marked i b ws) ((b + i) ∷ []) ∙ ap (λ (x : ℕ). x + 1) (sym h.counted))
+    counted-on : k + 1 ≡ length (marked (j + 1) b ws)
+    counted-on = sym (ap length more ∙ length-append (marked i b ws) ((b + j) ∷ []) ∙ ap (λ (x : ℕ). x + 1) (sym h.counted))
 
-  pub listing_set : k < length out → Listing b count ws out₀ (set out k (b + i)) (k + 1) j
-  listing_set q =
-      record {
-        most = next.most;
-        here = λ v. (next.here v).1;
-        counted = counted-on;
-        long = length-set out k (b + i) ∙ h.long;
-        laid = ap (λ (l : List ℕ). set l k (b + i)) h.laid ∙ ap (λ (x : ℕ). set (filled (marked i b ws) out₀) x (b + i)) h.counted
-            ∙ filled_in (marked i b ws) out₀ (b + i) (omega (arith, h.counted, h.long)) ∙ ap (λ (l : List ℕ). filled l out₀) (sym more);
-      }
+    -- a set bit lies in the words
+    pub listing_in : length ws ≡ 8 → (i ≤ j) × (j < count) × (j < 256)
+    listing_in l = (next.low, next.high, elim (decide (ltb j 256)) [ inl z ↦ ltb-true j 256 z | inr z ↦ absurd (true≢false (sym next.bit ∙ bit_past ws j l (ltb-false j 256 z))) ])
 
-  pub listing_past : length out ≤ k → Listing b count ws out₀ out (k + 1) j
-  listing_past q =
-      record {
-        most = next.most;
-        here = λ v. (next.here v).1;
-        counted = counted-on;
-        long = h.long;
-        laid = h.laid ∙ filled-past (marked i b ws) out₀ (b + i) (omega (arith, h.counted, h.long)) ∙ ap (λ (l : List ℕ). filled l out₀) (sym more);
-      }
+    pub listing_set : k < length out → Listing b count ws out₀ (set out k (b + j)) (k + 1) (j + 1)
+    listing_set q =
+        record {
+          most = omega (arith, next.high);
+          counted = counted-on;
+          long = length-set out k (b + j) ∙ h.long;
+          laid = ap (λ (l : List ℕ). set l k (b + j)) h.laid ∙ ap (λ (x : ℕ). set (filled (marked i b ws) out₀) x (b + j)) h.counted
+              ∙ filled_in (marked i b ws) out₀ (b + j) (omega (arith, h.counted, h.long)) ∙ ap (λ (l : List ℕ). filled l out₀) (sym more);
+        }
 
-pub listing_end : (b count : ℕ) (ws out₀ out : List ℕ) (k i : ℕ) → Listing b count ws out₀ out k i → count ≤ i → (k ≡ length (marked count b ws)) × (out ≡ filled (marked count b ws) out₀)
-listing_end b count ws out₀ out k i h q =
-    let e : i ≡ count = omega (arith, h.most) in
-    (h.counted ∙ ap (λ (n : ℕ). length (marked n b ws)) e, h.laid ∙ ap (λ (n : ℕ). filled (marked n b ws) out₀) e)
+    pub listing_past : length out ≤ k → Listing b count ws out₀ out (k + 1) (j + 1)
+    listing_past q =
+        record {
+          most = omega (arith, next.high);
+          counted = counted-on;
+          long = h.long;
+          laid = h.laid ∙ filled-past (marked i b ws) out₀ (b + j) (omega (arith, h.counted, h.long)) ∙ ap (λ (l : List ℕ). filled l out₀) (sym more);
+        }
 
--- THE SCAN: the numbers before place i are looked at
-pub record Looking (b end : ℕ) (ns : List ℕ) (below above : Bool) (i : ℕ) : Type 0 where
-  pub low : some_below b ns ≡ (below || some_below b (drop i ns))
-  pub high : some_from end ns ≡ (above || some_from end (drop i ns))
-
-pub looking_start : (b end : ℕ) (ns : List ℕ) → Looking b end ns false false 0
-looking_start b end ns = record { low = refl; high = refl }
-
-pub looking_step : (b end : ℕ) (ns : List ℕ) (below above : Bool) (i : ℕ) → Looking b end ns below above i → i < length ns
-    → Looking b end ns (below || ltb (get_or ns i 0) b) (above || leb end (get_or ns i 0)) (i + 1)
-looking_step b end ns below above i h u =
-    let d : drop i ns ≡ get_or ns i 0 ∷ drop (i + 1) ns = rw (add-one, drop-cons ns i 0) in
-    record {
-      low = h.low ∙ ap (λ (l : List ℕ). below || some_below b l) d ∙ sym (or_assoc below (ltb (get_or ns i 0) b) (some_below b (drop (i + 1) ns)));
-      high = h.high ∙ ap (λ (l : List ℕ). above || some_from end l) d ∙ sym (or_assoc above (leb end (get_or ns i 0)) (some_from end (drop (i + 1) ns)));
-    }
-
-pub looking_end : (b end : ℕ) (ns : List ℕ) (below above : Bool) (i : ℕ) → Looking b end ns below above i → length ns ≤ i → (below ≡ some_below b ns) × (above ≡ some_from end ns)
-looking_end b end ns below above i h u =
-    let d : drop i ns ≡ [] = drop_of_length-le ns u in
-    (sym (h.low ∙ ap (λ (l : List ℕ). below || some_below b l) d ∙ or_no below), sym (h.high ∙ ap (λ (l : List ℕ). above || some_from end l) d ∙ or_no above))
+  pub listing_end : next_bit ws count i ≡ None → (k ≡ length (marked count b ws)) × (out ≡ filled (marked count b ws) out₀)
+  listing_end e =
+      let s : marked count b ws ≡ marked i b ws = marked_skip b i count ws h.most (next_bit_gone ws count i e) in
+      (h.counted ∙ sym (ap length s), h.laid ∙ sym (ap (λ (l : List ℕ). filled l out₀) s))

@@ -1,21 +1,23 @@
 -- The members of a set, place by place: what a cut and numbers that join leave, how many there are, which comes next. Assumes nothing.
-use Prim.Native.Nat.{ℕ, ◌+◌, ◌-◌, ◌≤◌, ◌<◌, min}
+use Prim.Native.Nat.{ℕ, ◌+◌, ◌-◌, ◌^◌, ◌≤◌, ◌<◌, min}
 use mathlib.Core.Path.{◌≡◌, refl, sym, ap, ◌∙◌}
-use mathlib.Core.Bool.{Bool, true, false, not, ◌&&◌, ◌||◌, true≢false, false≢true}
-use mathlib.Core.List.{List, [], ◌∷◌}
-use Rattle.std.specs.Prelude.{Some, None, is_some, slice_get}
+use mathlib.Core.Bool.{Bool, true, false, ◌&&◌, ◌||◌, true≢false}
+use mathlib.Core.List.{List}
+use Rattle.std.specs.Prelude.{Some, None, slice_get}
+use Rattle.std.specs.Bool.{then_some}
 use mathlib.Core.Logic.{◌⊎◌, inl, inr}
 use lib.Dec.{ltb, leb}
 use lib.ListN.{length}
 use native.Mathlib.Omega.{arith}
 use borrow.Author.Tests.{ltb-true, ltb-false, leb-true, leb-false, le-leb, lt-ltb, le-ltb}
-use Rattle.sets.specs.Sets.{has, union, only, between, those, empty, first_or}
+use Rattle.sets.specs.Sets.{has, union, only, between, those}
 use Rattle.sets.proofs.Bools.{decide, and_left, and_right, or_comm}
 use Rattle.sets.proofs.Has.{has-between, has-union, From-only}
 use Rattle.sets.proofs.Those.{From-those, has_those_is, those_shift}
-use Rattle.sets.proofs.First.{first-is, first_cases, empty-none, empty-some}
+use Rattle.sets.proofs.First.{first-is, empty-none, empty-some}
+use Rattle.number_sets.proofs.First.{first_none, first_some, first_gone, first_found}
 use Rattle.number_sets.specs.Bits.{bit_at, next_bit, marked, eight_words, words_for, in_window}
-use Rattle.number_sets.proofs.Eight.{leb-same, ltb-same, words_same, bit_past, has_left, next_bit_none, next_bit_is}
+use Rattle.number_sets.proofs.Eight.{leb-same, ltb-same, words_same, has_left}
 
 -- whether a place is a member
 pub has-marked : (k b : ℕ) (ws : List ℕ) (n : ℕ) → has (marked k b ws) n ≡ ((leb b n && ltb n (b + k)) && bit_at ws (n - b))
@@ -80,42 +82,30 @@ size_is k b ws = those_shift k 0 b (bit_at ws) (λ n. bit_at ws (n - b)) (λ i u
 
 -- THE NEXT MEMBER
 
--- what the next bit tells
-pub record NextIs (ws : List ℕ) (k c r : ℕ) : Type 0 where
-  pub most : r ≤ k
-  pub here : r < k → (c ≤ r) × (bit_at ws r ≡ true)
-  pub none : (m : ℕ) → c ≤ m → m < r → bit_at ws m ≡ false
+-- what the next bit tells: there is one at place i
+pub record NextIs (ws : List ℕ) (k c i : ℕ) : Type 0 where
+  pub low : c ≤ i
+  pub high : i < k
+  pub bit : bit_at ws i ≡ true
+  pub none : (m : ℕ) → c ≤ m → m < i → bit_at ws m ≡ false
 
-pub next_bit_gives : (ws : List ℕ) (k c r : ℕ) → r ≡ next_bit ws k c → NextIs ws k c r
-next_bit_gives ws k c r e = go (first_cases k 0 (only (leb c) (those k 0 (bit_at ws))) (From-only 0 (leb c) (those k 0 (bit_at ws)) (From-those k 0 (bit_at ws))))
-  where
-    off : (m : ℕ) → c ≤ m → m < k → has (only (leb c) (those k 0 (bit_at ws))) m ≡ false → bit_at ws m ≡ false
-    off m a b f =
-        let t : (leb c m && ((leb 0 m && ltb m (0 + k)) && bit_at ws m)) ≡ false = sym (has_left ws k c m) ∙ f in
-        rw (le-leb c m a, le-leb 0 m (omega arith), lt-ltb m (0 + k) (omega arith)) at t
+module _ (ws : List ℕ) (k c : ℕ) where
+  left_off : (m : ℕ) → c ≤ m → m < k → has (only (leb c) (those k 0 (bit_at ws))) m ≡ false → bit_at ws m ≡ false
+  left_off m a b f =
+      let t : (leb c m && ((leb 0 m && ltb m (0 + k)) && bit_at ws m)) ≡ false = sym (has_left ws k c m) ∙ f in
+      rw (le-leb c m a, le-leb 0 m (omega arith), lt-ltb m (0 + k) (omega arith)) at t
 
-    go : ((next_bit ws k c ≡ k) × ((m : ℕ) → has (only (leb c) (those k 0 (bit_at ws))) m ≡ false))
-        ⊎ ((has (only (leb c) (those k 0 (bit_at ws))) (next_bit ws k c) ≡ true) × ((m : ℕ) → m < next_bit ws k c → has (only (leb c) (those k 0 (bit_at ws))) m ≡ false)) → NextIs ws k c r
-    go (inl f) = record { most = omega (arith, e, f.0); here = λ u. absurd (omega (arith, e, f.0)); none = λ m a b. off m a (omega (arith, e, f.0)) (f.1 m) }
-    go (inr f) =
-        let t : (leb c r && ((leb 0 r && ltb r (0 + k)) && bit_at ws r)) ≡ true = sym (has_left ws k c r) ∙ ap (has (only (leb c) (those k 0 (bit_at ws)))) e ∙ f.0 in
-        let s = and_right (leb c r) ((leb 0 r && ltb r (0 + k)) && bit_at ws r) t in
-        let lo : c ≤ r = leb-true c r (and_left (leb c r) ((leb 0 r && ltb r (0 + k)) && bit_at ws r) t) in
-        let hi : r < k = omega (arith, ltb-true r (0 + k) (and_right (leb 0 r) (ltb r (0 + k)) (and_left (leb 0 r && ltb r (0 + k)) (bit_at ws r) s))) in
-        record { most = omega arith; here = λ u. (lo, and_right (leb 0 r && ltb r (0 + k)) (bit_at ws r) s); none = λ m a b. off m a (omega arith) (f.1 m (omega (arith, e))) }
+  pub next_bit_gone : next_bit ws k c ≡ None → (m : ℕ) → c ≤ m → m < k → bit_at ws m ≡ false
+  next_bit_gone e m a b = left_off m a b (first_gone (only (leb c) (those k 0 (bit_at ws))) e m)
 
--- the first of a list, where there is none and where there is one
-pub first_none : (l : List ℕ) → empty l ≡ true → slice_get l 0 ≡ None
-first_none [] e = refl
-first_none (x ∷ xs) e = absurd (false≢true e)
-
-pub first_some : (x : ℕ) (l : List ℕ) → empty l ≡ false → first_or 0 l ≡ x → slice_get l 0 ≡ Some x
-first_some x [] e f = absurd (true≢false e)
-first_some x (y ∷ ys) e f = ap (λ (n : ℕ). Some n) f
-
-pub first_there : (l : List ℕ) → is_some (slice_get l 0) ≡ not (empty l)
-first_there [] = refl
-first_there (x ∷ xs) = refl
+  pub next_bit_some : (i : ℕ) → next_bit ws k c ≡ Some i → NextIs ws k c i
+  next_bit_some i e =
+      let f = first_found 0 i (only (leb c) (those k 0 (bit_at ws))) (From-only 0 (leb c) (those k 0 (bit_at ws)) (From-those k 0 (bit_at ws))) e in
+      let t : (leb c i && ((leb 0 i && ltb i (0 + k)) && bit_at ws i)) ≡ true = sym (has_left ws k c i) ∙ f.0 in
+      let s = and_right (leb c i) ((leb 0 i && ltb i (0 + k)) && bit_at ws i) t in
+      let lo : c ≤ i = leb-true c i (and_left (leb c i) ((leb 0 i && ltb i (0 + k)) && bit_at ws i) t) in
+      let hi : i < k = omega (arith, ltb-true i (0 + k) (and_right (leb 0 i) (ltb i (0 + k)) (and_left (leb 0 i && ltb i (0 + k)) (bit_at ws i) s))) in
+      record { low = lo; high = hi; bit = and_right (leb 0 i && ltb i (0 + k)) (bit_at ws i) s; none = λ m a b. left_off m a (omega arith) (f.1 m b) }
 
 -- what a member from c through top is
 record Within (k b : ℕ) (ws : List ℕ) (c top n : ℕ) : Type 0 where
@@ -139,53 +129,48 @@ within k b ws c top n e =
       bit = and_right (leb b n && ltb n (b + k)) (bit_at ws (n - b)) q;
     }
 
-module _ (k b : ℕ) (ws : List ℕ) (c top i : ℕ) (next : NextIs ws k (c - b) i) where
-  -- no member from c on stands before place i
-  before : (n : ℕ) → Within k b ws c top n → n - b < i → ⊥
-  before n w u = true≢false (sym w.bit ∙ next.none (n - b) (omega (arith, w.above, w.low)) u)
-
+module _ (k b : ℕ) (ws : List ℕ) (c top : ℕ) where
   off : ((n : ℕ) → Within k b ws c top n → ⊥) → (n : ℕ) → has (between c top (marked k b ws)) n ≡ false
   off f n = elim (decide (has (between c top (marked k b ws)) n)) [ inl e ↦ absurd (f n (within k b ws c top n e)) | inr e ↦ e ]
 
-  pub next-none : k ≤ i → slice_get (between c top (marked k b ws)) 0 ≡ None
-  next-none h = first_none _ (empty-none (between c top (marked k b ws)) (off (λ n w. before n w (omega (arith, w.high, w.low)))))
+  none_is : ((n : ℕ) → Within k b ws c top n → ⊥) → None ≡ slice_get (between c top (marked k b ws)) 0
+  none_is f = sym (first_none (between c top (marked k b ws)) (empty-none (between c top (marked k b ws)) (off f)))
 
-  pub next-over : i < k → top < b + i → slice_get (between c top (marked k b ws)) 0 ≡ None
-  next-over h g = first_none _ (empty-none (between c top (marked k b ws)) (off (λ n w. before n w (omega (arith, w.below, w.low)))))
+  pub next-none : next_bit ws k (c - b) ≡ None → None ≡ slice_get (between c top (marked k b ws)) 0
+  next-none e = none_is (λ n w. true≢false (sym w.bit ∙ next_bit_gone ws k (c - b) e (n - b) (omega (arith, w.above, w.low)) (omega (arith, w.high, w.low))))
 
-  pub next-some : i < k → b + i ≤ top → slice_get (between c top (marked k b ws)) 0 ≡ Some (b + i)
-  next-some h g =
-      first_some (b + i) _ (empty-some (b + i) (between c top (marked k b ws)) here)
-      (first-is 0 b (b + i) (between c top (marked k b ws)) (From-only b (λ n. leb c n && leb n top) (marked k b ws) (From-those k b (λ n. bit_at ws (n - b)))) here below)
-    where
-      here : has (between c top (marked k b ws)) (b + i) ≡ true
-      here =
-          has-between c top (marked k b ws) (b + i)
-          ∙ ap (λ (t : Bool). (leb c (b + i) && leb (b + i) top) && t) (has-place k b ws i)
-          ∙ rw (le-leb c (b + i) (omega (arith, (next.here h).0)), le-leb (b + i) top g, lt-ltb i k (omega arith), (next.here h).1) refl
+  module _ (i : ℕ) (e : next_bit ws k (c - b) ≡ Some i) where
+    next : NextIs ws k (c - b) i
+    next = next_bit_some ws k (c - b) i e
 
-      below : (m : ℕ) → m < b + i → has (between c top (marked k b ws)) m ≡ false
-      below m u = elim (decide (has (between c top (marked k b ws)) m)) [ inl e ↦ absurd (before m (within k b ws c top m e) (omega (arith, (within k b ws c top m e).low))) | inr e ↦ e ]
+    -- no member from c on stands before place i
+    before : (n : ℕ) → Within k b ws c top n → n < b + i → ⊥
+    before n w u = true≢false (sym w.bit ∙ next.none (n - b) (omega (arith, w.above, w.low)) (omega (arith, w.low)))
 
--- of a count that is at most 256
-pub next_bit_few : (ws : List ℕ) (k c r : ℕ) → k ≤ 256 → r ≡ next_bit ws (min k 256) c → NextIs ws k c r
-next_bit_few ws k c r h e = let m : min k 256 ≡ k = omega arith in next_bit_gives ws k c r (e ∙ ap (λ (x : ℕ). next_bit ws x c) m)
+    next-over : top < b + i → None ≡ slice_get (between c top (marked k b ws)) 0
+    next-over h = none_is (λ n w. before n w (omega (arith, w.below)))
 
--- with no end but the count: there is no bit past 256
-pub next_bit_all : (ws : List ℕ) (k c i : ℕ) → length ws ≡ 8 → i ≡ next_bit ws (min k 256) c → 256 ≤ i → k ≡ next_bit ws k c
-next_bit_all ws k c i long e h =
-    let n = next_bit_gives ws (min k 256) c i e in
-    next_bit_none ws k c (λ m a b. elim (decide (ltb m 256)) [ inl f ↦ n.none m a (omega (arith, ltb-true m 256 f)) | inr f ↦ bit_past ws m long (ltb-false m 256 f) ])
+    next-some : b + i ≤ top → Some (b + i) ≡ slice_get (between c top (marked k b ws)) 0
+    next-some g =
+        sym (first_some (b + i) (between c top (marked k b ws)) (empty-some (b + i) (between c top (marked k b ws)) here)
+        (first-is 0 b (b + i) (between c top (marked k b ws)) (From-only b (λ n. leb c n && leb n top) (marked k b ws) (From-those k b (λ n. bit_at ws (n - b)))) here below))
+      where
+        here : has (between c top (marked k b ws)) (b + i) ≡ true
+        here =
+            has-between c top (marked k b ws) (b + i)
+            ∙ ap (λ (t : Bool). (leb c (b + i) && leb (b + i) top) && t) (has-place k b ws i)
+            ∙ rw (le-leb c (b + i) (omega (arith, next.low)), le-leb (b + i) top g, lt-ltb i k next.high, next.bit) refl
 
-pub next_bit_one : (ws : List ℕ) (k c i : ℕ) → i ≡ next_bit ws (min k 256) c → i < 256 → i ≡ next_bit ws k c
-next_bit_one ws k c i e h = go (decide (ltb k 256))
-  where
-    n : NextIs ws (min k 256) c i
-    n = next_bit_gives ws (min k 256) c i e
+        below : (m : ℕ) → m < b + i → has (between c top (marked k b ws)) m ≡ false
+        below m u = elim (decide (has (between c top (marked k b ws)) m)) [ inl z ↦ absurd (before m (within k b ws c top m z) u) | inr z ↦ z ]
 
-    go : (ltb k 256 ≡ true) ⊎ (ltb k 256 ≡ false) → i ≡ next_bit ws k c
-    go (inl f) = let m : min k 256 ≡ k = omega (arith, ltb-true k 256 f) in e ∙ ap (λ (x : ℕ). next_bit ws x c) m
-    go (inr f) =
-        let at = n.here (omega (arith, ltb-false k 256 f)) in
-        let m : i ≡ min i k = omega (arith, ltb-false k 256 f) in
-        m ∙ next_bit_is ws k c i at.0 at.1 n.none
+    pub next-here : then_some (leb (b + i) top) (b + i) ≡ slice_get (between c top (marked k b ws)) 0
+    next-here = go (decide (leb (b + i) top))
+      where
+        go : (leb (b + i) top ≡ true) ⊎ (leb (b + i) top ≡ false) → then_some (leb (b + i) top) (b + i) ≡ slice_get (between c top (marked k b ws)) 0
+        go (inl z) = ap (λ (t : Bool). then_some t (b + i)) z ∙ next-some (leb-true (b + i) top z)
+        go (inr z) = ap (λ (t : Bool). then_some t (b + i)) z ∙ next-over (leb-false (b + i) top z)
+
+    -- nor does any number go past the 64-bit ones
+    pub next-past : top < 2 ^ 64 → (b + i < 2 ^ 64 → ⊥) → None ≡ slice_get (between c top (marked k b ws)) 0
+    next-past t z = next-over (omega arith)

@@ -1,12 +1,8 @@
 -- Sets as RTPS writes them: a base, a bit count, and 32-bit words, the first bit highest; and the way back, from numbers to words. Assumes nothing.
-use Rattle.std.specs.Prelude.{ℕ, zero, suc, ◌+◌, ◌-◌, ◌*◌, ◌/◌, ◌%◌, ◌^◌, max, Bool, cond, List, [], ◌∷◌, eqb, leb, get_or}
-use Rattle.sets.specs.Sets.{has, only, between, those, first_or}
-
--- a set of either kind, in natural numbers
-pub record NumberSet : Type 0 where
-  pub base : ℕ
-  pub count : ℕ
-  pub words : List ℕ
+use Rattle.std.specs.Prelude.{ℕ, zero, suc, ◌+◌, ◌-◌, ◌*◌, ◌/◌, ◌%◌, ◌^◌, max, Bool, cond, Option, List, [], ◌∷◌, eqb, leb, get_or, slice_get}
+use Rattle.sets.specs.Sets.{has, only, between, those}
+-- a set of either kind, in natural numbers: a base, a count, and a list of words
+pub use Rattle.number_sets.specs.declared.number_set.NumberSet.{NumberSet}
 
 -- "Bit i (from 0) is the bit of worth 2^(31−i mod 32) in word i div 32"
 abbrev pub bit_of : ℕ → ℕ → Bool
@@ -22,9 +18,9 @@ marked k b ws = those k b (λ n. bit_at ws (n - b))
 abbrev pub members : NumberSet → List ℕ
 members z = marked z.count z.base z.words
 
--- the first bit at or after c of those below k; k where there is none
-abbrev pub next_bit : List ℕ → ℕ → ℕ → ℕ
-next_bit ws k c = first_or k (only (leb c) (those k 0 (bit_at ws)))
+-- the first bit at or after c of those below k
+abbrev pub next_bit : List ℕ → ℕ → ℕ → Option ℕ
+next_bit ws k c = slice_get (only (leb c) (those k 0 (bit_at ws))) 0
 
 -- the other way: the k bits from s on that the test gives, the first highest; and the words of 32 of them
 unfoldable pub word_of : (ℕ → Bool) → ℕ → ℕ → ℕ

@@ -1,6 +1,7 @@
 -- What each call on a set answers. Assumes nothing.
-use Rattle.std.specs.Prelude.{ℕ, ◌+◌, ◌≤◌, ◌<◌, ◌^◌, max, refl, Bool, false, ◌||◌, Option, List, [], ◌∷◌, leb, ltb, pos, length, replicate, slice_get}
-use Rattle.sets.specs.Sets.{union, between}
+use Rattle.std.specs.Prelude.{ℕ, ◌+◌, refl, Bool, false, ◌||◌, Option, List, [], ◌∷◌, leb, ltb, length, replicate, slice_get}
+use Rattle.std.specs.List.{list_any}
+use Rattle.sets.specs.Sets.{between}
 use Rattle.numbers.specs.Capacities.{most_bits, top_acked}
 use Rattle.numbers.specs.declared.answer.Answer.{Answer}
 use Rattle.numbers.specs.Refusals.{Rows, row, done, unless}
@@ -16,10 +17,10 @@ use Rattle.numbers.specs.Promise.{Left1}
 use Rattle.number_sets.specs.declared.sequence_number_set.SequenceNumberSet.{SequenceNumberSet}
 use Rattle.number_sets.specs.declared.sequence_number_set.Listed.{Listed}
 use Rattle.number_sets.specs.declared.sequence_number_set.WrittenNumbers.{WrittenNumbers}
-use Rattle.number_sets.specs.declared.sequence_number_set.Outside.{Outside}
 use Rattle.number_sets.specs.declared.fragment_number_set.FragmentNumberSet.{FragmentNumberSet}
 use Rattle.number_sets.specs.declared.fragment_number_set.WrittenFragments.{WrittenFragments}
 use Rattle.number_sets.specs.Bits.{NumberSet, members, words_for, in_window, span}
+use Rattle.number_sets.specs.Words.{joined}
 use Rattle.rising.specs.Runs.{filled}
 
 -- a declared set in natural numbers
@@ -50,11 +51,6 @@ all_listed l room = record { result = record { answer = done; count = length l }
 abbrev pub members_listed : Rows → List ℕ → List ℕ → Left1 Listed (List ℕ)
 members_listed r l room = unless r (not_listed room) (all_listed l room)
 
--- the numbers that a set is asked to list: its base is that of a signed number, and its bits are those of eight words
-pub record Readable (base count : ℕ) : Type 0 where
-  pub low : base < 2 ^ 63
-  pub few : count ≤ most_bits
-
 -- the smallest member from c through top
 abbrev pub next_rank : NumberSet → ℕ → ℕ → Option ℕ
 next_rank z c top = slice_get (between c top (members z)) 0
@@ -73,12 +69,7 @@ cut_set s lo hi = record { base = s.base; count = s.count; words = words_for (ra
 
 -- the members and those of the numbers ns that the set can have, from the base to base+255; the count is raised to hold them
 abbrev pub joined_set : SequenceNumberSet → List ℕ → SequenceNumberSet
-joined_set s ns =
-    record {
-      base = s.base;
-      count = max s.count (span (rank_of s.base) (in_window (rank_of s.base) ns));
-      words = words_for (rank_of s.base) (union (in_window (rank_of s.base) ns) (members (sequence_set s)));
-    }
+joined_set s ns = record { base = s.base; count = (joined (sequence_set s) ns).count; words = (joined (sequence_set s) ns).words }
 
 -- a set with no member
 abbrev pub empty_at : SequenceNumber → SequenceNumberSet
@@ -86,15 +77,10 @@ empty_at b = record { base = b; count = 0; words = replicate 8 0 }
 
 -- whether any of the numbers is below b; whether any is b or more
 abbrev pub some_below : ℕ → List ℕ → Bool
-some_below b [] = false
-some_below b (n ∷ ns) = ltb n b || some_below b ns
+some_below b = list_any (λ n. ltb n b)
 
 abbrev pub some_from : ℕ → List ℕ → Bool
-some_from b [] = false
-some_from b (n ∷ ns) = leb b n || some_from b ns
-
-abbrev pub outside_of : ℕ → ℕ → List ℕ → Outside
-outside_of b end ns = record { below = some_below b ns; above = some_from end ns }
+some_from b = list_any (leb b)
 
 -- the set written for given numbers: 3 where one lies past the 256 bits from the base, a negative one too; 2 where one lies below the base, or it is negative
 abbrev pub not_written : Answer → WrittenNumbers
@@ -111,13 +97,6 @@ these_numbers b ns = record { base = b; count = span (rank_of b) (in_window (ran
 
 abbrev pub of_numbers : SequenceNumber → List ℕ → WrittenNumbers
 of_numbers b ns = unless (written_rows b ns) not_written (written (these_numbers b ns))
-
--- fragment numbers as the sequence numbers that are the same natural numbers
-abbrev pub wide_number : FragmentNumber → SequenceNumber
-wide_number n = record { 0 = pos n.0 }
-
-abbrev pub wide_set : FragmentNumberSet → SequenceNumberSet
-wide_set s = record { base = wide_number s.base; count = s.count; words = s.words }
 
 -- the same for fragment numbers, whose base is never negative
 abbrev pub empty_fragments : FragmentNumber → FragmentNumberSet

@@ -19,7 +19,7 @@ use Rattle.sets.proofs.Those.{From-those, has_those_is}
 use Rattle.sets.proofs.Ext.{ext, From_off}
 use Rattle.std.specs.Prelude.{Some, None}
 use Rattle.sets.proofs.First.{first-is, empty-none, empty-some}
-use Rattle.number_sets.proofs.Members.{first_none, first_some}
+use Rattle.number_sets.proofs.First.{first_none, first_some}
 use Rattle.requested_fragments.specs.Words.{low_bit_of, low_bit_at, fragments_of, asking, not_asking, next_in}
 use Rattle.requested_fragments.proofs.Digit.{or_bit, xor_bit}
 
