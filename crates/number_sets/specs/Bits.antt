@@ -1,8 +1,11 @@
 -- Sets as RTPS writes them: a base, a bit count, and 32-bit words, the first bit highest; and the way back, from numbers to words. Assumes nothing.
 use Rattle.std.specs.Prelude.{ℕ, zero, suc, ◌+◌, ◌-◌, ◌*◌, ◌/◌, ◌%◌, ◌^◌, max, Bool, cond, Option, List, [], ◌∷◌, eqb, leb, get_or, slice_get}
+use Rattle.number_sets.specs.declared.number_set.NumberSet as natural
 use Rattle.sets.specs.Sets.{has, only, between, those}
+
 -- a set of either kind, in natural numbers: a base, a count, and a list of words
-pub use Rattle.number_sets.specs.declared.number_set.NumberSet.{NumberSet}
+abbrev pub NumberSet : Type 0
+NumberSet = natural.NumberSet
 
 -- "Bit i (from 0) is the bit of worth 2^(31−i mod 32) in word i div 32"
 abbrev pub bit_of : ℕ → ℕ → Bool
