@@ -1,31 +1,17 @@
--- Slot by slot, from the last to the first, whether each is free or none after it has its id: so the ids are all different. Assumes nothing.
-use Prim.Native.Nat.{ℕ, suc, ◌+◌, ◌-◌, ◌*◌, ◌/◌, ◌%◌, ◌<◌, ◌≤◌, ◌^◌, max}
+-- Slot by slot, whether each is free or none before it has its id: so the ids are all different. Assumes nothing.
+use Prim.Native.Nat.{ℕ, ◌+◌, ◌*◌, ◌/◌, ◌%◌, ◌^◌, max}
 use mathlib.Core.Path.{◌≡◌, refl, sym, ap, ◌∙◌}
-use mathlib.Core.Bool.{Bool, true, false, not, cond, ◌&&◌, ◌||◌, and_comm, false≢true}
-use mathlib.Core.List.{List, [], ◌∷◌, foldl}
+use mathlib.Core.Bool.{Bool, true, false, not, ◌&&◌, ◌||◌, false≢true}
+use mathlib.Core.List.{List, [], ◌∷◌, ◌++◌}
 use native.Mathlib.Omega.{arith}
 use lib.Arith.{bin_ind}
 use lib.Bits.{bit_or, or_step, or_comm, or_self}
 use lib.Dec.{eqb}
-use lib.ListN.{length, drop, get_or, drop_of_length-le}
-use lib.Seq.{drop-cons}
-use borrow.Author.Tests.{eqb-true, eq-eqb}
-use Rattle.sets.proofs.Bools.{or_assoc, or_no}
+use borrow.Author.Tests.{eqb-true, eq-eqb, eqb-false, ne_eqb}
+use Rattle.sets.proofs.Bools.{or_assoc, or_no, and_yes}
 use Rattle.reader_list.specs.declared.heads.ReaderHead.{ReaderHead}
-use Rattle.reader_list.specs.declared.ids.Met.{Met}
 use Rattle.reader_list.specs.Readers.{is_there, different}
-use Rattle.reader_list.specs.Slots.{readers, free_slot}
-use Rattle.reader_list.specs.Alone.{sought_for, sought_on, alone_end, alone, alone_from, none_met, id_bit, meet_slot, look_from, told_alone}
-
--- ---- those after a slot: the id stays, and what was found is found
-sought_all : (hs : List ReaderHead) (i : ℕ) (found : Bool) → foldl sought_on (record { id = i; found = found }) hs ≡ record { id = i; found = found || is_there i (readers hs) }
-sought_all [] i found = ap (λ (b : Bool). record { id = i; found = b }) (sym (or_no found))
-sought_all (h ∷ hs) i found =
-    sought_all hs i (found || eqb h.id i)
-    ∙ ap (λ (b : Bool). record { id = i; found = b }) (or_assoc found (eqb h.id i) (is_there i (readers hs)))
-
-pub alone-is : (hs : List ReaderHead) (h : ReaderHead) → alone_end (foldl sought_on (sought_for h) hs) ≡ alone hs h
-alone-is hs h = ap alone_end (sought_all hs h.id false)
+use Rattle.reader_list.specs.Slots.{readers}
 
 -- ---- words joined by or
 or_all : (a b c : ℕ) → bit_or (bit_or a b) c ≡ bit_or a (bit_or b c)
@@ -51,59 +37,87 @@ or_in a b = or_all a b b ∙ ap (bit_or a) (or_self b)
 or_still : (a b c : ℕ) → bit_or a b ≡ a → bit_or (bit_or a c) b ≡ bit_or a c
 or_still a b c e = or_all a c b ∙ ap (bit_or a) (or_comm c b) ∙ sym (or_all a b c) ∙ ap (λ (x : ℕ). bit_or x c) e
 
--- ---- what is known of the slots from one on
-abbrev pub gone : List ReaderHead → Met
-gone [] = none_met
-gone (h ∷ hs) = told_alone (meet_slot (gone hs) h) (alone (cond (meet_slot (gone hs) h).again hs []) h)
+-- the low six bits of an id, as one bit of a word
+abbrev pub id_bit : ℕ → ℕ
+id_bit i = 1 * 2 ^ (i % 64) % 18446744073709551616
 
--- where a slot has an id, its bit is there
-low-has : (i : ℕ) (hs : List ReaderHead) → is_there i (readers hs) ≡ true → bit_or (gone hs).low (id_bit i) ≡ (gone hs).low
-low-has i [] e = absurd (false≢true e)
-low-has i (h ∷ hs) e = go (low-has i hs) (eqb h.id i) refl e
+-- ---- what is known of the slots so far: of each id among them the bit is there, and whether all are different
+pub record Known (hs : List ReaderHead) (low : ℕ) (all : Bool) : Type 0 where
+  pub has_bit : (i : ℕ) → is_there i (readers hs) ≡ true → bit_or low (id_bit i) ≡ low
+  pub all_is : all ≡ different (readers hs)
+
+none_known : Known [] 0 true
+none_known = record { has_bit = λ i e. absurd (false≢true e); all_is = refl }
+
+-- ---- one slot more
+there_more : (i : ℕ) (hs : List ReaderHead) (h : ReaderHead) → is_there i (readers (hs ++ h ∷ [])) ≡ (is_there i (readers hs) || eqb h.id i)
+there_more i [] h = or_no (eqb h.id i)
+there_more i (x ∷ hs) h = ap (λ (b : Bool). eqb x.id i || b) (there_more i hs h) ∙ sym (or_assoc (eqb x.id i) (is_there i (readers hs)) (eqb h.id i))
+
+different_more : (hs : List ReaderHead) (h : ReaderHead) → different (readers (hs ++ h ∷ [])) ≡ (different (readers hs) && (eqb h.id 0 || not (is_there h.id (readers hs))))
+different_more [] h = or_true (eqb h.id 0)
   where
-    go : (is_there i (readers hs) ≡ true → bit_or (gone hs).low (id_bit i) ≡ (gone hs).low) → (b : Bool) → eqb h.id i ≡ b → (b || is_there i (readers hs)) ≡ true
-        → bit_or (bit_or (gone hs).low (id_bit h.id)) (id_bit i) ≡ bit_or (gone hs).low (id_bit h.id)
-    go had true q t = ap (λ (k : ℕ). bit_or (bit_or (gone hs).low (id_bit h.id)) (id_bit k)) (sym (eqb-true h.id i q)) ∙ or_in (gone hs).low (id_bit h.id)
-    go had false q t = or_still (gone hs).low (id_bit i) (id_bit h.id) (had t)
-
--- so a slot whose bit is new stands alone
-or_yes : (b : Bool) → (b || true) ≡ true
-or_yes true = refl
-or_yes false = refl
-
-new_alone : (h : ReaderHead) (hs : List ReaderHead) → (meet_slot (gone hs) h).again ≡ false → alone hs h ≡ true
-new_alone h hs e = go (eqb h.id 0) (is_there h.id (readers hs)) refl e
+    or_true : (b : Bool) → ((b || true) && true) ≡ (b || true)
+    or_true true = refl
+    or_true false = refl
+different_more (x ∷ hs) h =
+    (λ k. (eqb x.id 0 || not (there_more x.id hs h k)) && different_more hs h k)
+    ∙ go (eqb h.id x.id) (eqb x.id h.id) (eqb x.id 0) (eqb h.id 0) (is_there x.id (readers hs)) (is_there h.id (readers hs)) (different (readers hs)) refl refl refl refl refl refl
   where
-    go : (z t : Bool) → is_there h.id (readers hs) ≡ t → (eqb (bit_or (gone hs).low (id_bit h.id)) (gone hs).low && not z) ≡ false → (z || not t) ≡ true
-    go true t q n = refl
-    go false false q n = refl
-    go false true q n = absurd (false≢true (sym n ∙ (λ i. eq-eqb _ _ (low-has h.id hs q) i && true)))
+    same_id : (z a b d : Bool) → ((z || not (a || true)) && (d && (z || not b))) ≡ (((z || not a) && d) && (z || not (true || b)))
+    same_id true a b d = refl
+    same_id false true b d = refl
+    same_id false false b true = refl
+    same_id false false b false = refl
 
-pub gone-different : (hs : List ReaderHead) → (gone hs).different ≡ different (readers hs)
-gone-different [] = refl
-gone-different (h ∷ hs) = go (gone-different hs) (meet_slot (gone hs) h).again refl
+    other_id : (z w a b d : Bool) → ((z || not (a || false)) && (d && (w || not b))) ≡ (((z || not a) && d) && (w || not (false || b)))
+    other_id true w a b d = refl
+    other_id false w true b d = refl
+    other_id false w false b d = refl
+
+    go : (e f z w a b d : Bool) → eqb h.id x.id ≡ e → eqb x.id h.id ≡ f → eqb x.id 0 ≡ z → eqb h.id 0 ≡ w → is_there x.id (readers hs) ≡ a → is_there h.id (readers hs) ≡ b
+        → ((z || not (a || e)) && (d && (w || not b))) ≡ (((z || not a) && d) && (w || not (f || b)))
+    go true f z w a b d p q r s t u =
+        let same : h.id ≡ x.id = eqb-true h.id x.id p in
+        let f' : f ≡ true = sym q ∙ eq-eqb x.id h.id (sym same) in
+        let w' : w ≡ z = sym s ∙ ap (λ (i : ℕ). eqb i 0) same ∙ r in
+        rw (f', w') (same_id z a b d)
+    go false f z w a b d p q r s t u =
+        let f' : f ≡ false = sym q ∙ ne_eqb x.id h.id (λ e. eqb-false h.id x.id p (sym e)) in
+        rw f' (other_id z w a b d)
+
+-- where its bit is new, or it is free, a slot stands alone
+new_alone : (hs : List ReaderHead) (h : ReaderHead) (low : ℕ) → ((i : ℕ) → is_there i (readers hs) ≡ true → bit_or low (id_bit i) ≡ low)
+    → ((bit_or low (id_bit h.id) ≡ low) → h.id ≡ 0) → (eqb h.id 0 || not (is_there h.id (readers hs))) ≡ true
+new_alone hs h low k n = go (is_there h.id (readers hs)) refl
   where
-    go : (gone hs).different ≡ different (readers hs) → (b : Bool) → (meet_slot (gone hs) h).again ≡ b → ((gone hs).different && alone (cond b hs []) h) ≡ (alone hs h && different (readers hs))
-    go e true q = (λ i. e i && alone hs h) ∙ and_comm (different (readers hs)) (alone hs h)
-    go e false q = (λ i. e i && (or_yes (eqb h.id 0) ∙ sym (new_alone h hs q)) i) ∙ and_comm (different (readers hs)) (alone hs h)
+    yes : (b : Bool) → (b || true) ≡ true
+    yes true = refl
+    yes false = refl
 
--- ---- one slot more, as the walk takes it
-pub gone_more : (hs : List ReaderHead) → length hs < 2 ^ 64 → (i : ℕ) → 0 < i → i ≤ length hs
-    → told_alone (meet_slot (gone (drop i hs)) (get_or hs (i - 1) free_slot)) (alone_from hs (look_from (meet_slot (gone (drop i hs)) (get_or hs (i - 1) free_slot)) i) (get_or hs (i - 1) free_slot)) ≡ gone (drop (i - 1) hs)
-gone_more hs few i more there = ap (told_alone m) (go m.again) ∙ ap gone (sym split)
+    go : (t : Bool) → is_there h.id (readers hs) ≡ t → (eqb h.id 0 || not t) ≡ true
+    go false e = yes (eqb h.id 0)
+    go true e = ap (λ (b : Bool). b || false) (eq-eqb h.id 0 (n (k h.id e)))
+
+low_more : (hs : List ReaderHead) (h : ReaderHead) (low : ℕ) → ((i : ℕ) → is_there i (readers hs) ≡ true → bit_or low (id_bit i) ≡ low)
+    → (i : ℕ) → is_there i (readers (hs ++ h ∷ [])) ≡ true → bit_or (bit_or low (id_bit h.id)) (id_bit i) ≡ bit_or low (id_bit h.id)
+low_more hs h low k i e = go (is_there i (readers hs)) refl (sym (there_more i hs h) ∙ e)
   where
-    h : ReaderHead
-    h = get_or hs (i - 1) free_slot
+    go : (t : Bool) → is_there i (readers hs) ≡ t → (t || eqb h.id i) ≡ true → bit_or (bit_or low (id_bit h.id)) (id_bit i) ≡ bit_or low (id_bit h.id)
+    go true q n = or_still low (id_bit i) (id_bit h.id) (k i q)
+    go false q n = ap (λ (j : ℕ). bit_or (bit_or low (id_bit h.id)) (id_bit j)) (sym (eqb-true h.id i n)) ∙ or_in low (id_bit h.id)
 
-    m : Met
-    m = meet_slot (gone (drop i hs)) h
+-- and whether it does is asked only where its bit was there
+pub known_more : (hs : List ReaderHead) (h : ReaderHead) (low : ℕ) (all new : Bool) → Known hs low all
+    → ((bit_or low (id_bit h.id) ≡ low) → (h.id ≡ 0 → ⊥) → new ≡ (all && not (is_there h.id (readers hs))))
+    → (((bit_or low (id_bit h.id) ≡ low) → h.id ≡ 0) → new ≡ all)
+    → Known (hs ++ h ∷ []) (bit_or low (id_bit h.id)) new
+known_more hs h low all new k asked alone = record { has_bit = low_more hs h low k.has_bit; all_is = go (eqb (bit_or low (id_bit h.id)) low) refl (eqb h.id 0) refl ∙ sym (different_more hs h) }
+  where
+    as_it_was : ((bit_or low (id_bit h.id) ≡ low) → h.id ≡ 0) → new ≡ (different (readers hs) && (eqb h.id 0 || not (is_there h.id (readers hs))))
+    as_it_was n = alone n ∙ k.all_is ∙ sym (and_yes (different (readers hs))) ∙ ap (λ (b : Bool). different (readers hs) && b) (sym (new_alone hs h low k.has_bit n))
 
-    split : drop (i - 1) hs ≡ h ∷ drop i hs
-    split = let k : i - 1 < length hs = omega arith in let e : suc (i - 1) ≡ i = omega arith in drop-cons hs (i - 1) free_slot k ∙ ap (λ (j : ℕ). h ∷ drop j hs) e
-
-    none : drop 18446744073709551615 hs ≡ []
-    none = drop_of_length-le hs {i = 18446744073709551615} (omega arith)
-
-    go : (b : Bool) → alone (drop (cond b i 18446744073709551615) hs) h ≡ alone (cond b (drop i hs) []) h
-    go true = refl
-    go false = ap (λ (l : List ReaderHead). alone l h) none
+    go : (t : Bool) → eqb (bit_or low (id_bit h.id)) low ≡ t → (z : Bool) → eqb h.id 0 ≡ z → new ≡ (different (readers hs) && (eqb h.id 0 || not (is_there h.id (readers hs))))
+    go true e true q = as_it_was (λ w. eqb-true h.id 0 q)
+    go true e false q = asked (eqb-true _ low e) (eqb-false h.id 0 q) ∙ (λ i. k.all_is i && (sym q i || not (is_there h.id (readers hs))))
+    go false e z q = as_it_was (λ w. absurd (eqb-false _ low e w))

@@ -1,15 +1,11 @@
 -- An outcome that is a function of the answer alone: what the call leaves. Assumes nothing.
-use Prim.Native.Nat.{ℕ}
 use mathlib.Core.Path.{◌≡◌, ap, ◌∙◌, refl}
-use mathlib.Core.Bool.{Bool, true, false, cond}
+use mathlib.Core.Bool.{Bool, true, false}
 use lib.Dec.{eqb}
-use borrow.Author.Tests.{ne_eqb, eqb-true, eqb-false}
-use Rattle.numbers.specs.Refusals.{answer_of, unless, done, is_done, Rows}
+use borrow.Author.Tests.{eqb-true, eqb-false}
+use Rattle.numbers.specs.Refusals.{answer_of, unless, done, Rows}
 use Rattle.numbers.specs.declared.answer.Answer.{Answer}
 use Rattle.numbers.proofs.Refused.{is_refused, is-done, done-is}
-use Rattle.reader_list.specs.Walk.{nowhere}
-use Rattle.reader_list.specs.declared.heads.ReaderHead.{ReaderHead}
-use Rattle.reader_list.specs.declared.ends.Put.{Put}
 
 module _ (r : Rows) (a : Answer) (q : a ≡ answer_of r) where
   pub settled : {A : Type 0} (outcome refusal : Answer → A) → ((x : Answer) → (x.number ≡ 0 → ⊥) → outcome x ≡ refusal x) → outcome a ≡ unless r refusal (outcome done)
@@ -18,7 +14,3 @@ module _ (r : Rows) (a : Answer) (q : a ≡ answer_of r) where
       go : (t : Bool) → eqb a.number 0 ≡ t → outcome a ≡ unless r refusal (outcome done)
       go true e = ap outcome (done-is r a q (eqb-true _ _ e)) ∙ is-done r a q refusal (outcome done) (eqb-true _ _ e)
       go false e = k a (eqb-false _ _ e) ∙ is_refused r a q refusal (outcome done) (eqb-false _ _ e)
-
-  -- a head stored at a place
-  pub put : (at : ℕ) (h : ReaderHead) → ◌≡◌ {A = Put} (cond (is_done a) (record { answer = a; at = at; head = h }) (nowhere a)) (unless r nowhere (record { answer = done; at = at; head = h }))
-  put at h = settled (λ x. cond (is_done x) (record { answer = x; at = at; head = h }) (nowhere x)) nowhere (λ x n. rw (ne_eqb x.number 0 n))

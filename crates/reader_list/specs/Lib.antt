@@ -1,5 +1,4 @@
 -- The definitions of `reader_list`.
 pub mod Readers
 pub mod Slots
-pub mod Alone
-pub mod Walk
+pub mod Ahead

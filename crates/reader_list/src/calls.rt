@@ -1,15 +1,12 @@
-// The calls on a lent list: whether its ids are all different, then one walk, and at most one slot is stored.
+// The calls on a lent list: each finds the slot that it is about, and at most one slot is stored.
 ghost use Rattle.std.specs.Prelude.{◌≡◌};
 ghost use Rattle.numbers.specs.Promise.{Gives1};
 ghost use Rattle.reader_list.specs.Slots.{front_of, found_of, match_of, depart_of, ack_of};
+ghost use Rattle.reader_list.specs.Ahead.{changed};
 
-use crate::ends::{
-    acked_end, ask_acked, ask_for, ask_front, ask_match, depart_end, found_end, front_end,
-    match_end,
-};
+use crate::changes::{Slot, acking, departing, find, matching, store};
 use crate::heads::{AckedFrontier, ReaderHead};
-use crate::ids::are_different;
-use crate::walk::see;
+use crate::looks::{is_coherent, smallest};
 use numbers::{Answer, SequenceNumber};
 
 // A match: the reader's id, whether it is reliable, and its cap of unsent numbers.
@@ -33,7 +30,7 @@ pub struct Acked {
     pub acked: SequenceNumber,
 }
 
-// Where a reader stands.
+// Where a reader stands, as C sees it.
 #[repr(C)]
 #[derive(Clone, Copy)]
 pub struct Found {
@@ -42,6 +39,7 @@ pub struct Found {
     pub head: ReaderHead,
 }
 
+// The frontier, as C sees it.
 #[repr(C)]
 #[derive(Clone, Copy)]
 pub struct Front {
@@ -53,82 +51,64 @@ pub struct Front {
 pub fn frontier(list: &[ReaderHead]) -> Front
     ensures { result ≡ front_of list.now }
 {
-    let different = are_different(list);
-    let mut acc = ask_front(different);
-    let mut i = 0;
-    while i < list.len() {
-        acc = see(acc, list[i]);
-        i += 1;
+    let coherent = is_coherent(list);
+    let front = if coherent { smallest(list) } else { 0 };
+    Front {
+        answer: Answer::coherence(coherent),
+        frontier: AckedFrontier::from_rank(front),
     }
-    front_end(acc)
 }
 
 pub fn matched_reader_lookup(list: &[ReaderHead], id: u64) -> Found
     ensures { result ≡ found_of list.now id }
 {
-    let different = are_different(list);
-    let mut acc = ask_for(id, different);
-    let mut i = 0;
-    while i < list.len() {
-        acc = see(acc, list[i]);
-        i += 1;
+    match find(list, id) {
+        Ok(Slot { place, head }) => Found {
+            answer: Answer::done(),
+            place,
+            head,
+        },
+        Err(answer) => Found {
+            answer,
+            place: 0,
+            head: ReaderHead::FREE,
+        },
     }
-    found_end(acc)
+}
+
+// The slot is stored, where the call isn't refused.
+fn change(list: &mut [ReaderHead], slot: Result<Slot, Answer>) -> Answer
+    ensures { Gives1 result list.new (changed list.old slot) }
+{
+    match slot {
+        Ok(slot) => {
+            store(list, slot);
+            Answer::done()
+        }
+        Err(answer) => answer,
+    }
 }
 
 // A match: the first free slot takes the reader.
 pub fn matched_reader_add(list: &mut [ReaderHead], m: Match) -> Answer
     ensures { Gives1 result list.new (match_of list.old m) }
 {
-    let different = are_different(list);
-    let mut acc = ask_match(m, different);
-    let mut i = 0;
-    while i < list.len() {
-        acc = see(acc, list[i]);
-        i += 1;
-    }
-    let d = match_end(acc);
-    let at = d.at;
-    if at < list.len() {
-        list[at] = d.head;
-    }
-    d.answer
+    let slot = matching(list, m);
+    change(list, slot)
 }
 
 // A departure: the reader's slot is free again.
 pub fn matched_reader_remove(list: &mut [ReaderHead], id: u64) -> Answer
     ensures { Gives1 result list.new (depart_of list.old id) }
 {
-    let different = are_different(list);
-    let mut acc = ask_for(id, different);
-    let mut i = 0;
-    while i < list.len() {
-        acc = see(acc, list[i]);
-        i += 1;
-    }
-    let d = depart_end(acc);
-    let at = d.at;
-    if at < list.len() {
-        list[at] = d.head;
-    }
-    d.answer
+    let slot = departing(list, id);
+    change(list, slot)
 }
 
 // One reader's acked set.
 pub fn set_acked(list: &mut [ReaderHead], a: Acked) -> Answer
     ensures { Gives1 result list.new (ack_of list.old a) }
 {
-    let different = are_different(list);
-    let mut acc = ask_acked(a, different);
-    let mut i = 0;
-    while i < list.len() {
-        acc = see(acc, list[i]);
-        i += 1;
-    }
-    let d = acked_end(acc);
-    let at = d.at;
-    if at < list.len() {
-        list[at] = d.head;
-    }
-    d.answer
+    let slot = acking(list, a);
+    change(list, slot)
 }

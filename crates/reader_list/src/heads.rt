@@ -1,9 +1,9 @@
 // One slot of the list, and the frontier.
-ghost use Rattle.std.specs.Prelude.{◌≡◌, max};
-ghost use Rattle.reader_list.specs.Slots.{frontier_of, frontier_at};
+ghost use Rattle.std.specs.Prelude.{◌≡◌};
+ghost use Rattle.reader_list.specs.Readers.{slot_coherent};
+ghost use Rattle.reader_list.specs.Slots.{head_view, frontier_of, frontier_at};
 
 use numbers::SequenceNumber;
-use numbers::arith::larger;
 
 // A free slot is all zeros: its id is 0.
 #[repr(C)]
@@ -14,7 +14,7 @@ pub struct ReaderHead {
     pub acked: SequenceNumber,
 }
 
-// The acknowledgement frontier: absent, or a number.
+// The acknowledgement frontier, as C sees it: absent, or a number.
 #[repr(C)]
 #[derive(Clone, Copy)]
 pub struct AckedFrontier {
@@ -25,25 +25,42 @@ pub struct AckedFrontier {
 impl ReaderHead {
     // The most readers that a list has slots for.
     pub const MOST: usize = 64;
+
+    // A free slot.
+    pub const FREE: ReaderHead = ReaderHead {
+        id: 0,
+        reliable: false,
+        acked: SequenceNumber(0),
+    };
+
+    // Whether it is a reader's, or all zeros.
+    pub(crate) fn is_coherent(self) -> bool
+        ensures { result ≡ slot_coherent (head_view self) }
+    {
+        let zero = (self.acked.rank() == 0) & !self.acked.is_negative();
+        (self.id != 0) | (!self.reliable & zero)
+    }
 }
 
 impl AckedFrontier {
-    // Its natural number, raised to 1 at least; 0 stands for an absent one.
+    // Its natural number, raised to 1 at least; 0 stands for an absent one, as in the definitions.
     pub fn rank(self) -> u64
         ensures { result ≡ frontier_of self }
     {
-        let n = self.acked.rank();
-        if self.present { larger(1, n) } else { 0 }
+        if self.present {
+            self.acked.rank().max(1)
+        } else {
+            0
+        }
     }
 
     // The frontier of a natural number.
     pub fn from_rank(n: u64) -> AckedFrontier
         ensures { result ≡ frontier_at n }
     {
-        let acked = SequenceNumber::from_rank(n);
         AckedFrontier {
-            present: !(n == 0),
-            acked,
+            present: n != 0,
+            acked: SequenceNumber::from_rank(n),
         }
     }
 }

@@ -1,13 +1,11 @@
 // The readers of a writer, side by side in one lent list.
 #![tactic(auto)]
 
-pub mod ahead;
-pub mod arrays;
 pub mod calls;
-pub mod ends;
+pub mod changes;
 pub mod heads;
 mod ids;
-pub mod walk;
+mod looks;
 
 pub use calls::{Acked, Found, Front, Match};
 pub use heads::{AckedFrontier, ReaderHead};

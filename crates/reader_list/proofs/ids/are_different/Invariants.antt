@@ -1,9 +1,6 @@
-use Rattle.std.proofs.Common.{◌≡◌, ◌≤◌, length, drop}
-use Rattle.reader_list.proofs.Alone.{gone}
+use Rattle.std.proofs.Common.{take}
+use Rattle.reader_list.proofs.Alone.{Known}
 use Rattle.reader_list.proofs.ids.are_different.Given as goal
 
 abbrev pub invariant-loop-i : goal.invariant-loop-i
-invariant-loop-i l = (l.i ≤ length l.list) × (l.acc ≡ gone (drop l.i l.list))
-
-abbrev pub decreases-loop-i : goal.decreases-loop-i
-decreases-loop-i l = l.i
+invariant-loop-i l = Known (take l.i l.list) l.low l.different

@@ -1,0 +1,11 @@
+use Rattle.std.proofs.Common.{◌∙◌, ap, false, ◌||◌, eqb, rules}
+use Rattle.reader_list.proofs.Gather.{has_fold, fold_lent}
+use Rattle.reader_list.proofs.ids.has_id.Goals as goal
+
+pub returns : goal.returns
+returns c =
+    let r = c.fold.ensures.runs in
+    let p = r.0 in
+    r.3 (λ b h. b || eqb h.now.id c.args.id) (λ x y r f' k. search rules)
+    ∙ fold_lent (λ b h. b || eqb h.id c.args.id) false p.items c.args.list.now ((c.iter.ensures.runs p p.seen).4 r.2 ∙ ap (λ s. s.rest.now) r.1 ∙ search rules)
+    ∙ has_fold c.args.id false c.args.list.now
