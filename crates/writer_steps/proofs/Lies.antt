@@ -13,7 +13,7 @@ use Rattle.sets.specs.Sets.{has, empty, without}
 use Rattle.sets.proofs.Loops.{upto, upto_more}
 use Rattle.numbers.specs.Capacities.{top_number}
 use Rattle.numbers.specs.Number.{rank_of, number_at}
-use Rattle.numbers.specs.Refusals.{answer_at, row, unless, done}
+use Rattle.numbers.specs.Refusals.{answer_at, row, answer_of, unless, done, is_done}
 use Rattle.numbers.specs.Promise.{Left2, Left4, Gives2, Gives4}
 use Rattle.numbers.specs.declared.answer.Answer.{Answer}
 use Rattle.numbers.proofs.Ranks.{rank_back}
@@ -35,7 +35,7 @@ use Rattle.writer_send_buffer.specs.Samples.{store_coherent, store_rows, slot_st
 use Rattle.writer_send_buffer.proofs.Sound.{holds}
 use Rattle.writer_send_buffer.proofs.Locating.{located_coherent}
 use Rattle.writer_steps.specs.declared.many.SentMany.{SentMany}
-use Rattle.writer_steps.specs.Many.{Gone, Sending, sending, no_start, starts_at, long_as, most_of, many_left, send_many_of, gone_as, located_start, start_for, length_for, Placeable, emptied}
+use Rattle.writer_steps.specs.Many.{Gone, Sending, sending, no_start, starts_at, long_as, most_of, many_left, send_many_of, gone_as, located_start, start_for, length_for, Placeable}
 use Rattle.writer_steps.proofs.Repeats.{sending-is}
 
 -- ---- WHERE ONE LIES: what `locate` says of a coherent store, with no look at it
@@ -76,6 +76,10 @@ all_put F ns t s i e h l =
     e ∙ ap (upto (filled (map F ns) t) t) same ∙ filled_end (map F ns) t (length ns) (omega (arith, length-map ns F))
 
 -- ---- MANY
+-- the answer of the call on the unsent room, or 14
+abbrev pub emptied : Bool → Bool → Answer
+emptied taken nothing = answer_of (row 1 refl (not taken) ∷ row 14 refl nothing ∷ [])
+
 filled-part : (l s : List ℕ) (k : ℕ) → length l ≤ k → k ≤ length s → filled l (take k s) ++ drop k s ≡ filled l s
 filled-part l s k h q =
     ap (λ (x : List ℕ). (x ++ drop (length l) (take k s)) ++ drop k s) (take_all (length (take k s)) l (omega (arith, length-take-le k s q)))
@@ -115,7 +119,7 @@ module _ (f : WriterSendBuffer) (room : ℕ) (lens : List ℕ) (h : ReaderProxy)
       subst (Gives4 (record { answer = a; count = 0; proxy = h }) u ns ss ls) (sym (ap (λ (t : Bool). many_by t (unsent_coherent h u) (empty held)) e))
       (record { result = ap (λ (x : Answer). record { answer = x; count = 0; proxy = h }) q; first = refl; second = refl; third = refl; fourth = refl })
 
-  module _ (ok : store_coherent f room lens ≡ true) (t : Taken) (u' o : List ℕ) (g : Gives2 t u' o (taken_of h u (take k ns))) (a : Answer) (ea : a ≡ emptied t.answer (eqb h.unsent_count 0)) where
+  module _ (ok : store_coherent f room lens ≡ true) (t : Taken) (u' o : List ℕ) (g : Gives2 t u' o (taken_of h u (take k ns))) (a : Answer) (ea : a ≡ emptied (is_done t.answer) (eqb h.unsent_count 0)) where
     abbrev taken_by : Bool → Left2 Taken (List ℕ) (List ℕ)
     taken_by v =
         unless (row 1 refl (not v) ∷ [])
@@ -137,7 +141,7 @@ module _ (f : WriterSendBuffer) (room : ℕ) (lens : List ℕ) (h : ReaderProxy)
       bad-left : Gives4 (record { answer = a; count = 0; proxy = h }) u' (o ++ drop k ns) ss ls (many_by true false (empty held))
       bad-left =
           record {
-            result = ap (λ (x : Answer). record { answer = x; count = 0; proxy = h }) (ea ∙ ap (λ (x : Taken). emptied x.answer (eqb h.unsent_count 0)) is-bad.result);
+            result = ap (λ (x : Answer). record { answer = x; count = 0; proxy = h }) (ea ∙ ap (λ (x : Taken). emptied (is_done x.answer) (eqb h.unsent_count 0)) is-bad.result);
             first = is-bad.first;
             second = ap (λ (x : List ℕ). x ++ drop k ns) is-bad.second ∙ take-append-drop k ns;
             third = refl;
@@ -154,11 +158,11 @@ module _ (f : WriterSendBuffer) (room : ℕ) (lens : List ℕ) (h : ReaderProxy)
       count-is : length held ≡ h.unsent_count
       count-is = length-take-le h.unsent_count u us.run.fits
 
-      answer-is : a ≡ emptied done (empty held)
+      answer-is : a ≡ emptied true (empty held)
       answer-is =
           ea
-          ∙ ap (λ (x : Taken). emptied x.answer (eqb h.unsent_count 0)) is_good.result
-          ∙ ap (emptied done) (ap (λ (n : ℕ). eqb n 0) (sym count-is) ∙ none-held held)
+          ∙ ap (λ (x : Taken). emptied (is_done x.answer) (eqb h.unsent_count 0)) is_good.result
+          ∙ ap (emptied true) (ap (λ (n : ℕ). eqb n 0) (sym count-is) ∙ none-held held)
 
       -- nothing is unsent
       none_left : empty held ≡ true → Gives4 (record { answer = a; count = 0; proxy = h }) u' (o ++ drop k ns) ss ls (many_by true true true)
@@ -167,7 +171,7 @@ module _ (f : WriterSendBuffer) (room : ℕ) (lens : List ℕ) (h : ReaderProxy)
           let y : untaken (length (take k ns)) held ≡ [] = ap (untaken (length (take k ns))) z ∙ untaken-none (length (take k ns)) in
           let x : taken (length (take k ns)) held ≡ [] = ap (taken (length (take k ns))) z ∙ taken_none (length (take k ns)) in
           record {
-            result = ap (λ (b : Answer). record { answer = b; count = 0; proxy = h }) (answer-is ∙ ap (emptied done) e);
+            result = ap (λ (b : Answer). record { answer = b; count = 0; proxy = h }) (answer-is ∙ ap (emptied true) e);
             first = is_good.first ∙ ap (room_of (length u)) (y ∙ sym z) ∙ sym (room-is 0 h.unsent_count u us.run);
             second = ap (λ (b : List ℕ). b ++ drop k ns) (is_good.second ∙ ap (λ (b : List ℕ). filled b (take k ns)) x ∙ ap (λ (b : List ℕ). b ++ take k ns) (take-nil (length (take k ns)))) ∙ take-append-drop k ns;
             third = refl;
@@ -240,7 +244,7 @@ module _ (f : WriterSendBuffer) (room : ℕ) (lens : List ℕ) (h : ReaderProxy)
         all_left =
             subst (λ (s : Sending). Gives4 (record { answer = a; count = t.count; proxy = t.proxy }) u' (o ++ drop k ns) ss' ls' (many_left f room lens s ns ss ls)) (sym sent_so_lem)
             (record {
-              result = λ j. record { answer = (answer-is ∙ ap (emptied done) some) j; count = (count-taken ∙ sym (length-map (taken k held) (gone_as f))) j; proxy = (ap (λ (x : Taken). x.proxy) is_good.result ∙ ap (λ (m : ℕ). count_unsent (length (untaken m held)) h) long) j };
+              result = λ j. record { answer = (answer-is ∙ ap (emptied true) some) j; count = (count-taken ∙ sym (length-map (taken k held) (gone_as f))) j; proxy = (ap (λ (x : Taken). x.proxy) is_good.result ∙ ap (λ (m : ℕ). count_unsent (length (untaken m held)) h) long) j };
               first = is_good.first ∙ ap (λ (m : ℕ). room_of (length u) (untaken m held)) long;
               second = took ∙ ap (λ (x : List ℕ). filled x ns) (sym (map_twice (λ g. g.number) (taken k held) ∙ map_same (taken k held)));
               third = es ∙ ap (λ (x : List ℕ). filled (map (start_for f lens) x) ss) numbers-taken ∙ ap (λ (x : List ℕ). filled x ss) (starts_are (taken k held) tops ∙ sym (map_twice (starts_at f room lens) (taken k held)));
@@ -256,7 +260,7 @@ module _ (f : WriterSendBuffer) (room : ℕ) (lens : List ℕ) (h : ReaderProxy)
         go : (v : Bool) → unsent_coherent h u ≡ v → (n : Bool) → empty held ≡ n → Gives4 (record { answer = a; count = 0; proxy = h }) u' (o ++ drop k ns) ss ls (send_many_of f room lens h u ns ss ls)
         go false ev n en = subst (Gives4 (record { answer = a; count = 0; proxy = h }) u' (o ++ drop k ns) ss ls) (as_called false (empty held) ev refl) (bad-left ev)
         go true ev true en = subst (Gives4 (record { answer = a; count = 0; proxy = h }) u' (o ++ drop k ns) ss ls) (as_called true true ev en) (none_left ev en)
-        go true ev false en = absurd (z (ap (λ (x : Answer). x.number) (answer-is ev ∙ ap (emptied done) en)))
+        go true ev false en = absurd (z (ap (λ (x : Answer). x.number) (answer-is ev ∙ ap (emptied true) en)))
 
     module _ (z : a.number ≡ 0) where
       pub unsent_good : unsent_coherent h u ≡ true
@@ -280,7 +284,7 @@ module _ (f : WriterSendBuffer) (room : ℕ) (lens : List ℕ) (h : ReaderProxy)
 
   -- as the code has it: q is as many as the rooms have places for
   module _ (ok : store_coherent f room lens ≡ true) (q m : ℕ) (em : m ≡ min (length ss) (length ls)) (eq : q ≡ min (length ns) m) (t : Taken) (u' o : List ℕ) (g : Gives2 t u' o (taken_of h u (take q ns)))
-      (a : Answer) (ea : a ≡ emptied t.answer (eqb h.unsent_count 0)) where
+      (a : Answer) (ea : a ≡ emptied (is_done t.answer) (eqb h.unsent_count 0)) where
     same : q ≡ most_of ns ss ls
     same = eq ∙ ap (min (length ns)) em
 

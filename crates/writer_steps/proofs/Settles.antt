@@ -1,170 +1,242 @@
--- What a step decides of one walk, stored, is the step. Assumes nothing.
-use Prim.Native.Nat.{ℕ, ◌<◌, ◌^◌}
-use mathlib.Core.Path.{◌≡◌, ap, subst, ◌∙◌}
-use mathlib.Core.Bool.{Bool, true, false, cond}
-use mathlib.Core.List.{List}
-use native.Mathlib.Omega.{arith}
-use lib.ListN.{length, set}
-use lib.Seq.{set_out}
-use Rattle.numbers.specs.Refusals.{is_done}
-use Rattle.numbers.specs.Promise.{Left1, Left2, Left4, Gives1, Gives2, Gives4}
+-- What a step decides before it stores anything is the step. Assumes nothing.
+use Prim.Native.Nat.{ℕ}
+use mathlib.Core.Path.{◌≡◌, refl, sym, ap, subst, ◌∙◌}
+use mathlib.Core.Bool.{Bool, true, false, not, cond}
+use mathlib.Core.List.{List, [], ◌∷◌}
+use lib.Dec.{ltb}
+use lib.IntN.{pos}
+use lib.ListN.{get_or, set}
+use borrow.Author.Tests.{ne_eqb, eqb-true, eqb-false}
+use Rattle.std.specs.Prelude.{Result, Ok, Err}
+use Rattle.numbers.specs.Number.{below0, rank_of, negative, number_at}
+use Rattle.numbers.specs.Refusals.{row, answer_of, is_done, unless, done, Rows}
+use Rattle.numbers.specs.Answers.{earlier, in_turn, answered}
+use Rattle.numbers.specs.Promise.{Left1, Left2, Left4, Gives2, Gives4}
 use Rattle.numbers.specs.declared.answer.Answer.{Answer}
+use Rattle.numbers.specs.declared.answer.Told.{Told}
 use Rattle.numbers.specs.declared.sequence_number.SequenceNumber.{SequenceNumber}
+use Rattle.numbers.proofs.Refused.{clear}
+use Rattle.numbers.proofs.Answered.{left-done, right_done}
 use Rattle.number_sets.specs.declared.sequence_number_set.SequenceNumberSet.{SequenceNumberSet}
 use Rattle.rtps_reader_proxy.specs.declared.proxy.ReaderProxy.{ReaderProxy}
 use Rattle.rtps_reader_proxy.specs.declared.acks.AckNacked.{AckNacked}
-use Rattle.rtps_reader_proxy.specs.Acks.{ack_nacked_among}
+use Rattle.rtps_reader_proxy.specs.Acks.{ack_rows, ack_leaves, ack_nacked_among}
 use Rattle.reader_list.specs.declared.heads.ReaderHead.{ReaderHead}
+use Rattle.reader_list.specs.declared.heads.AckedFrontier.{AckedFrontier}
 use Rattle.reader_list.specs.declared.calls.Match.{Match}
 use Rattle.reader_list.specs.declared.calls.Acked.{Acked}
 use Rattle.reader_list.specs.declared.calls.Found.{Found}
 use Rattle.reader_list.specs.declared.calls.Front.{Front}
-use Rattle.reader_list.specs.declared.ends.Put.{Put}
-use Rattle.reader_list.specs.declared.walk.Seen.{Seen}
-use Rattle.reader_list.specs.Slots.{front_of, match_of, depart_of}
-use Rattle.reader_list.specs.Walk.{match_end, depart_end, acked_end, found_end, walk_asking, front_with, seen_for, seen_match}
-use Rattle.reader_list.proofs.Answers.{match-gives, depart-gives, found_answers}
-use Rattle.reader_list.proofs.Foreseen.{match_front, depart_front, ack_front, ack-gives}
+use Rattle.reader_list.specs.declared.changes.Slot.{Slot}
+use Rattle.reader_list.specs.Readers.{place_of_id}
+use Rattle.reader_list.specs.Slots.{readers, list_coherent, free_slot, frontier_of, list_rows, id_unknown, match_rows, depart_rows_of, front_of, found_of}
+use Rattle.reader_list.specs.Ahead.{front_with, front_after, match_slot, depart_slot, ack_slot}
+use Rattle.reader_list.proofs.Gather.{id_known}
+use Rattle.reader_list.proofs.Foreseen.{match_front, depart_front, ack_front}
 use Rattle.writer_send_buffer.specs.declared.flow.WriterSendBuffer.{WriterSendBuffer}
 use Rattle.writer_send_buffer.specs.declared.frontiers.Woken.{Woken}
+use Rattle.writer_send_buffer.specs.Flow.{ahead, stored, wakes}
+use Rattle.writer_send_buffer.specs.Buffer.{flow_view, flow_form, flow_coherent, ranged, acked_of, told_no, woken}
 use Rattle.writer_steps.specs.declared.acks.AckTold.{AckTold}
-use Rattle.writer_steps.specs.declared.acks.AckSettled.{AckSettled}
-use Rattle.writer_steps.specs.declared.stores.Settled.{Settled}
-use Rattle.writer_steps.specs.declared.two.Listed2.{Listed2}
-use Rattle.writer_steps.specs.Readers.{stored_of, beside_flow, after, list_after, list_step, match_step, depart_step, settled_of, put_settled, match_settled, depart_settled}
-use Rattle.writer_steps.specs.Acks.{acked_by, beside_ack, acked_list, ack_stored, ack_left, ack_step, ack_put, ack_ahead, ack_settled_by, ack_taken, ack_settled}
-use Rattle.writer_steps.specs.Two.{listed2, taken2}
+use Rattle.writer_steps.specs.Readers.{not_stored, stored_of, flow_rows, beside_flow, after, list_after, step_leaves, list_step, change_step, match_step, depart_step}
+use Rattle.writer_steps.specs.Acks.{acked_by, there_for, beside_ack, acked_list, ack_stored, ack_left, ack_step}
+use Rattle.writer_steps.proofs.Together.{found_rows, found_answer}
 
--- one slot stored, where the step is done
-module _ (hs : List ReaderHead) (few : length hs < 2 ^ 64) (p : Put) (o : List ReaderHead) (g : set hs p.at p.head ≡ o) where
-  put-listed : (w : Woken) → set hs (settled_of w p).at (settled_of w p).head ≡ list_after w hs o
-  put-listed w = go (is_done w.told.answer)
+-- WHERE THE REST IS DONE, whether the flow record is coherent is asked by the store itself
+asked_once : (f : WriterSendBuffer) (a : AckedFrontier) → woken (acked_of f a) ≡ after (beside_flow done f) (woken (acked_of f a)) f
+asked_once f a = go (flow_coherent f)
+  where
+    store : Bool → Left1 Told WriterSendBuffer
+    store t =
+        unless (ranged t (ahead (frontier_of a) (flow_view f)))
+        (λ no. record { result = told_no no; first = f })
+        (record { result = record { answer = done; yes = wakes (frontier_of a) (flow_view f) }; first = flow_form (stored (frontier_of a) (flow_view f)) })
+
+    go : (t : Bool) → woken (store t) ≡ after (earlier done (answer_of (row 1 refl (not t) ∷ []))) (woken (store t)) f
+    go true = refl
+    go false = refl
+
+-- A CHANGE OF THE LIST by a call that is refused by the rows r
+module _ (hs : List ReaderHead) (f : WriterSendBuffer) (i : ℕ) (r : Rows) (k : ℕ) (h : ReaderHead) where
+  abbrev slot : Bool → Result Slot Answer
+  slot b = cond b (Ok (record { place = k; head = h })) (Err (answer_of r))
+
+  abbrev left : Bool → Left1 Answer (List ReaderHead)
+  left b = cond {A = Left1 Answer (List ReaderHead)} b (record { result = done; first = set hs k h }) (record { result = answer_of r; first = hs })
+
+  change_is : front_after hs i (slot (is_done (answer_of r))) ≡ front_of (left (is_done (answer_of r))).first → change_step hs f i (slot (is_done (answer_of r))) ≡ list_step hs f (left (is_done (answer_of r)))
+  change_is = go (is_done (answer_of r)) refl
     where
-      go : (b : Bool) → set hs (cond b p.at 18446744073709551615) p.head ≡ cond b o hs
-      go true = g
-      go false = set_out hs 18446744073709551615 p.head (omega arith)
+      same : (t : Bool) (l : List ReaderHead) → l ≡ cond t l l
+      same true l = refl
+      same false l = refl
 
--- A CHANGE OF THE LIST
-module _ (hs : List ReaderHead) (few : length hs < 2 ^ 64) (f : WriterSendBuffer) (p : Put) (front : Front) (o : Left1 Answer (List ReaderHead)) (g : Gives1 p.answer (set hs p.at p.head) o) (e : front ≡ front_of o.first) where
-  abbrev w : Woken
-  w = after (beside_flow p.answer f) (stored_of front f) f
-
-  abbrev w' : Woken
-  w' = after (beside_flow o.result f) (stored_of (front_of o.first) f) f
-
-  same : w ≡ w'
-  same = λ i. after (beside_flow (g.result i) f) (stored_of (e i) f) f
-
-  settles_listed : Gives2 (settled_of w p).told (set hs (settled_of w p).at (settled_of w p).head) (settled_of w p).flow (list_step hs f o)
-  settles_listed =
-      record {
-        result = ap (λ (x : Woken). x.told) same;
-        first = put-listed hs few p o.first g.first w ∙ ap (λ (x : Woken). list_after x hs o.first) same;
-        second = ap (λ (x : Woken). x.flow) same;
-      }
+      go : (b : Bool) → is_done (answer_of r) ≡ b → front_after hs i (slot b) ≡ front_of (left b).first → change_step hs f i (slot b) ≡ list_step hs f (left b)
+      go true e q =
+          ap (λ (w : Woken). step_leaves w hs (set hs k h))
+          (asked_once f (front_with hs i h) ∙ ap (λ (x : Front). after (beside_flow done f) (stored_of x f) f) q)
+      go false e q =
+          let z : is_done (beside_flow (answer_of r) f) ≡ false = ne_eqb _ 0 (λ y. eqb-false _ 0 e (left-done (answer_of r) (answer_of (flow_rows f)) y)) in
+          let w : after (beside_flow (answer_of r) f) (stored_of (front_of hs) f) f ≡ not_stored f (beside_flow (answer_of r) f) = rw z in
+          (λ j. record { result = told_no (beside_flow (answer_of r) f); first = same (is_done (beside_flow (answer_of r) f)) hs j; second = f })
+          ∙ ap (λ (x : Woken). step_leaves x hs hs) (sym w)
 
 module _ (hs : List ReaderHead) (f : WriterSendBuffer) where
-  pub match_settles : (m : Match) → length hs < 2 ^ 64
-      → Gives2 (match_settled f (seen_match hs m)).told (set hs (match_settled f (seen_match hs m)).at (match_settled f (seen_match hs m)).head) (match_settled f (seen_match hs m)).flow (match_step hs f m)
-  match_settles m few = settles_listed hs few f (match_end (seen_match hs m)) (front_with (match_end (seen_match hs m)) (seen_match hs m)) (match_of hs m) (match-gives hs few m) (match_front hs m)
+  pub match_settles : (m : Match) → change_step hs f m.id (match_slot hs m) ≡ match_step hs f m
+  match_settles m = change_is hs f m.id (match_rows hs m) (place_of_id 0 (readers hs)) (record { id = m.id; reliable = m.reliable; acked = number_at 0 }) (match_front hs m)
 
-  pub depart_settles : (i : ℕ) → length hs < 2 ^ 64
-      → Gives2 (depart_settled f (seen_for hs i)).told (set hs (depart_settled f (seen_for hs i)).at (depart_settled f (seen_for hs i)).head) (depart_settled f (seen_for hs i)).flow (depart_step hs f i)
-  depart_settles i few = settles_listed hs few f (depart_end (seen_for hs i)) (front_with (depart_end (seen_for hs i)) (seen_for hs i)) (depart_of hs i) (depart-gives hs few i) (depart_front hs i)
-
--- what a change of the list decides, call by call
-pub list_decided : (f : WriterSendBuffer) (s : Seen) (p : Put) → (front : Front) → front ≡ front_with p s → (w : Woken) → w ≡ stored_of front f
-    → (a : Answer) → a ≡ beside_flow p.answer f → (w' : Woken) → w' ≡ after a w f → (d : Settled) → d ≡ settled_of w' p → d ≡ put_settled f p s
-list_decided f s p front ef w ew a ea w' ew' d es =
-    es
-    ∙ ap (λ (x : Woken). settled_of x p) (ew' ∙ (λ i. after (ea i) ((ew ∙ ap (λ (x : Front). stored_of x f) ef) i) f))
+  pub depart_settles : (i : ℕ) → change_step hs f i (depart_slot hs i) ≡ depart_step hs f i
+  depart_settles i = change_is hs f i (depart_rows_of (list_coherent hs) i (readers hs)) (place_of_id i (readers hs)) free_slot (depart_front hs i)
 
 -- AN ACKNACK
-module _ (hs : List ReaderHead) (f : WriterSendBuffer) (h : ReaderProxy) (unsent gaps : List ℕ) (i : ℕ) (set' : SequenceNumberSet) where
+module _ (hs : List ReaderHead) (f : WriterSendBuffer) (h : ReaderProxy) (unsent gaps : List ℕ) (i : ℕ) (z : SequenceNumberSet) where
+  abbrev Out : Type 0
+  Out = Left4 AckTold (List ReaderHead) WriterSendBuffer (List ℕ) (List ℕ)
+
+  abbrev found : Found
+  found = found_of hs i
+
+  -- the head as the ACKNACK leaves it, and the frontier then
+  abbrev head : ReaderHead
+  head = record { id = found.head.id; reliable = found.head.reliable; acked = acked_by z h }
+
+  abbrev ahead_woken : Woken
+  ahead_woken = woken (acked_of f (front_with hs i head))
+
+  abbrev taken_by : Answer → Answer → Left2 AckNacked (List ℕ) (List ℕ)
+  taken_by beside then = ack_nacked_among beside then z f.last h unsent gaps
+
+  abbrev leaves : Found → Woken → List ReaderHead → Out
+  leaves d w l = ack_left (taken_by (beside_ack f d h) w.told.answer) w f hs l
+
   abbrev asked : Acked
-  asked = record { id = i; acked = acked_by set' h }
+  asked = record { id = i; acked = acked_by z h }
 
-  stored_is : ack_ahead f set' h (seen_for hs i) ≡ ack_stored hs f i set' h
-  stored_is = ap (λ (x : Front). stored_of x f) (ack_front hs asked)
+  abbrev place : ℕ
+  place = place_of_id i (readers hs)
 
-  abbrev taken_by : Found → Woken → Left2 AckNacked (List ℕ) (List ℕ)
-  taken_by d w = ack_nacked_among (beside_ack f d h) w.told.answer set' f.last h unsent gaps
+  abbrev there : ReaderHead
+  there = get_or hs place free_slot
 
-  abbrev leaves : Left2 AckNacked (List ℕ) (List ℕ) → Woken → Left4 AckTold (List ReaderHead) WriterSendBuffer (List ℕ) (List ℕ)
-  leaves n w = ack_left n w f hs (acked_list hs i set' h)
+  abbrev new : ReaderHead
+  new = record { id = i; reliable = there.reliable; acked = acked_by z h }
 
-  step_is : leaves (taken_by (found_end (seen_for hs i)) (ack_ahead f set' h (seen_for hs i))) (ack_ahead f set' h (seen_for hs i)) ≡ ack_step hs f i set' h unsent gaps
-  step_is = λ j. leaves (taken_by (found_answers hs i j) (stored_is j)) (stored_is j)
+  -- the acked that is left is not below 0: so the reader is all that is asked
+  not_below : (n : ℕ) → negative (number_at n) ≡ false
+  not_below n = go (ltb n 9223372036854775808)
+    where
+      go : (t : Bool) → below0 (cond t (pos n) (pos 0)) ≡ false
+      go true = refl
+      go false = refl
 
-  module _ (few : length hs < 2 ^ 64) (x : AckSettled) (u g : List ℕ) (e : Gives2 x u g (ack_settled f h unsent gaps set' (seen_for hs i))) where
-    abbrev n : Left2 AckNacked (List ℕ) (List ℕ)
-    n = ack_taken f h unsent gaps set' (seen_for hs i)
+  abbrev rows : Rows
+  rows = found_rows hs i
 
-    abbrev moved : Woken
-    moved = after n.result.answer (ack_ahead f set' h (seen_for hs i)) f
+  abbrev acked_rows : Rows
+  acked_rows = list_rows false (list_coherent hs) (negative (acked_by z h)) (id_unknown i (readers hs)) false
 
-    abbrev Out : Type 0
-    Out = Left4 AckTold (List ReaderHead) WriterSendBuffer (List ℕ) (List ℕ)
+  rows_are : acked_rows ≡ rows
+  rows_are = ap (λ (t : Bool). list_rows false (list_coherent hs) t (id_unknown i (readers hs)) false) (not_below _)
 
-    pub ack_settles : Gives4 x.answered (set hs x.at x.head) x.flow u g (ack_step hs f i set' h unsent gaps)
-    ack_settles =
-        record {
-          result = ap (λ (r : AckSettled). r.answered) e.result ∙ ap (λ (o : Out). o.result) step_is;
-          first = ap (λ (r : AckSettled). set hs r.at r.head) e.result ∙ put-listed hs few (ack_put set' h (seen_for hs i)) (acked_list hs i set' h) (ack-gives hs asked few).first moved ∙ ap (λ (o : Out). o.first) step_is;
-          second = ap (λ (r : AckSettled). r.flow) e.result ∙ ap (λ (o : Out). o.second) step_is;
-          third = e.first ∙ ap (λ (o : Out). o.third) step_is;
-          fourth = e.second ∙ ap (λ (o : Out). o.fourth) step_is;
-        }
+  module _ (e : is_done (answer_of rows) ≡ true) where
+    found_is : found ≡ record { answer = done; place = place; head = there }
+    found_is = ap (λ (t : Bool). cond {A = Found} t (record { answer = done; place = place; head = there }) (record { answer = answer_of rows; place = 0; head = free_slot })) e
 
--- what an ACKNACK decides, call by call
-module _ (f : WriterSendBuffer) (h : ReaderProxy) (unsent gaps : List ℕ) (z : SequenceNumberSet) (s : Seen) (found : Found) (ed : found ≡ found_end s) (b : Answer) (eb : b ≡ beside_ack f found h)
-    (n : SequenceNumber) (en : n ≡ acked_by z h) (t : Seen) (et : t ≡ walk_asking n s) (p : Put) (ep : p ≡ acked_end t) (front : Front) (ef : front ≡ front_with p t) (w : Woken) (ew : w ≡ stored_of front f)
-    (r : AckNacked) (u g : List ℕ) (o : Gives2 r u g (ack_nacked_among b w.told.answer z f.last h unsent gaps)) (w' : Woken) (ew' : w' ≡ after r.answer w f) (d : Settled) (es : d ≡ settled_of w' p) where
-  is-asking : t ≡ walk_asking (acked_by z h) s
-  is-asking = et ∙ ap (λ (x : SequenceNumber). walk_asking x s) en
+    slot_is : ack_slot hs asked ≡ Ok (record { place = place; head = new })
+    slot_is =
+        ap (λ (r : Rows). unless {A = Result Slot Answer} r Err (Ok (record { place = place; head = new }))) rows_are
+        ∙ ap (λ (t : Bool). cond {A = Result Slot Answer} t (Ok (record { place = place; head = new })) (Err (answer_of rows))) e
 
-  is-put : p ≡ ack_put z h s
-  is-put = ep ∙ ap acked_end is-asking
+    list_is : acked_list hs i z h ≡ set hs place new
+    list_is =
+        ap (λ (r : Rows). (unless {A = Left1 Answer (List ReaderHead)} r (λ no. record { result = no; first = hs }) (record { result = done; first = set hs place new })).first) rows_are
+        ∙ ap (λ (t : Bool). (cond {A = Left1 Answer (List ReaderHead)} t (record { result = done; first = set hs place new }) (record { result = answer_of rows; first = hs })).first) e
 
-  is-stored : w ≡ ack_ahead f z h s
-  is-stored = ew ∙ ap (λ (x : Front). stored_of x f) (ef ∙ (λ j. front_with (is-put j) (is-asking j)))
+    head_is : head ≡ new
+    head_is =
+        ap (λ (d : Found). record { id = d.head.id; reliable = d.head.reliable; acked = acked_by z h }) found_is
+        ∙ ap (λ (n : ℕ). record { id = n; reliable = there.reliable; acked = acked_by z h }) (id_known i hs (clear rows (answer_of rows) refl (eqb-true _ 0 e) 11 refl))
 
-  abbrev taken : Left2 AckNacked (List ℕ) (List ℕ)
-  taken = ack_nacked_among b w.told.answer z f.last h unsent gaps
+    woken_is : ahead_woken ≡ ack_stored hs f i z h
+    woken_is =
+        ap (λ (x : ReaderHead). woken (acked_of f (front_with hs i x))) head_is
+        ∙ ap (λ (x : Front). stored_of x f) (ap (front_after hs i) (sym slot_is) ∙ ack_front hs asked)
 
-  is-taken : taken ≡ ack_taken f h unsent gaps z s
-  is-taken = λ j. ack_nacked_among ((eb ∙ ap (λ (x : Found). beside_ack f x h) ed) j) (is-stored j).told.answer z f.last h unsent gaps
+    taken_is : leaves found ahead_woken (set hs found.place head) ≡ ack_step hs f i z h unsent gaps
+    taken_is = λ j. leaves found (woken_is j) (((λ k. set hs (found_is k).place (head_is k)) ∙ sym list_is) j)
 
-  abbrev by : Left2 AckNacked (List ℕ) (List ℕ) → Woken → Put → Left2 AckSettled (List ℕ) (List ℕ)
-  by k x q = ack_settled_by (settled_of (after k.result.answer x f) q) k
+  -- where the reader isn't there, the step is refused, whatever the frontier
+  module _ (e : is_done (answer_of rows) ≡ false) where
+    abbrev own : Answer
+    own = answer_of (ack_rows h unsent gaps z f.last)
 
-  settled_is : by taken w p ≡ ack_settled f h unsent gaps z s
-  settled_is = λ j. by (is-taken j) (is-stored j) (is-put j)
+    abbrev no : Answer
+    no = earlier own (beside_ack f found h)
 
-  moved-is : d ≡ settled_of (after taken.result.answer w f) p
-  moved-is = es ∙ ap (λ (x : Woken). settled_of x p) (ew' ∙ ap (λ (x : AckNacked). after x.answer w f) o.result)
+    refused : is_done no ≡ false
+    refused = ne_eqb no.number 0 (λ y. eqb-false _ 0 e (sym (ap (λ (x : Answer). x.number) (found_answer hs i)) ∙ left-done found.answer _ (left-done (there_for found h) _ (right_done own (beside_ack f found h) y))))
 
-  pub ack_decided : Gives2 (record { answered = record { told = d.told; left_out = r.left_out; proxy = r.proxy }; at = d.at; head = d.head; flow = d.flow }) u g (ack_settled f h unsent gaps z s)
-  ack_decided =
-      record {
-        result = (λ j. record { answered = record { told = (moved-is j).told; left_out = (o.result j).left_out; proxy = (o.result j).proxy }; at = (moved-is j).at; head = (moved-is j).head; flow = (moved-is j).flow })
-            ∙ ap (λ (x : Left2 AckSettled (List ℕ) (List ℕ)). x.result) settled_is;
-        first = o.first ∙ ap (λ (x : Left2 AckSettled (List ℕ) (List ℕ)). x.first) settled_is;
-        second = o.second ∙ ap (λ (x : Left2 AckSettled (List ℕ) (List ℕ)). x.second) settled_is;
-      }
+    abbrev not_taken : Out
+    not_taken = record { result = record { told = told_no no; left_out = 0; proxy = h }; first = hs; second = f; third = unsent; fourth = gaps }
 
--- A LIST OF TWO SLOTS, by value
-module _ (hs : List ReaderHead) (few : length hs < 2 ^ 64) (f : WriterSendBuffer) (s : Seen) where
-  pub match_in_2 : (m : Match) → s ≡ seen_match hs m → (d : Settled) → d ≡ match_settled f s → (l : List ReaderHead) → l ≡ set hs d.at d.head
-      → ◌≡◌ {A = Listed2} (record { told = d.told; heads = l; flow = d.flow }) (listed2 (match_step hs f m))
-  match_in_2 m es d ed l el =
-      let e : d ≡ match_settled f (seen_match hs m) = ed ∙ ap (match_settled f) es in
-      let g = match_settles hs f m few in
-      (λ j. record { told = (e j).told; heads = (el ∙ ap (λ (x : Settled). set hs x.at x.head) e) j; flow = (e j).flow })
-      ∙ (λ j. record { told = g.result j; heads = g.first j; flow = g.second j })
+    abbrev abandoned : Answer → Left2 AckNacked (List ℕ) (List ℕ)
+    abandoned a = record { result = record { answer = a; left_out = 0; proxy = h }; first = unsent; second = gaps }
 
-  module _ (h : ReaderProxy) (unsent gaps : List ℕ) (i : ℕ) (z : SequenceNumberSet) (es : s ≡ seen_for hs i) (d : AckSettled) (u g : List ℕ) (ed : Gives2 d u g (ack_settled f h unsent gaps z s)) where
-    pub ack_in_2 : (l : List ReaderHead) → l ≡ set hs d.at d.head → Gives2 (record { answered = d.answered; heads = l; flow = d.flow }) u g (taken2 (ack_step hs f i z h unsent gaps))
-    ack_in_2 l el =
-        let k = ack_settles hs f h unsent gaps i z few d u g (subst (λ (x : Seen). Gives2 d u g (ack_settled f h unsent gaps z x)) es ed) in
-        record { result = λ j. record { answered = k.result j; heads = (el ∙ k.first) j; flow = k.second j }; first = k.third; second = k.fourth }
+    all_refused : (w : Woken) (l : List ReaderHead) → leaves found w l ≡ not_taken
+    all_refused w l = ap (λ (n : Left2 AckNacked (List ℕ) (List ℕ)). ack_left n w f hs l) nacked_is ∙ ap by after_is ∙ ap (λ (t : Bool). record { result = record { told = told_no no; left_out = 0; proxy = h }; first = cond t l hs; second = f; third = unsent; fourth = gaps }) refused
+      where
+        turn_is : in_turn no w.told.answer ≡ no
+        turn_is = ap (λ (t : Bool). cond t w.told.answer no) refused
+
+        nacked_is : taken_by (beside_ack f found h) w.told.answer ≡ abandoned no
+        nacked_is =
+            ap (λ (a : Answer). answered a abandoned (ack_leaves z (rank_of f.last) h unsent gaps)) turn_is
+            ∙ ap (λ (t : Bool). cond t (ack_leaves z (rank_of f.last) h unsent gaps) (abandoned no)) refused
+
+        after_is : after no w f ≡ not_stored f no
+        after_is = ap (λ (t : Bool). cond t w (not_stored f no)) refused
+
+        by : Woken → Out
+        by x = record { result = record { told = x.told; left_out = 0; proxy = h }; first = list_after x hs l; second = x.flow; third = unsent; fourth = gaps }
+
+    not_taken_is : leaves found ahead_woken (set hs found.place head) ≡ ack_step hs f i z h unsent gaps
+    not_taken_is = all_refused ahead_woken (set hs found.place head) ∙ sym (all_refused (ack_stored hs f i z h) (acked_list hs i z h))
+
+  pub ack_settles : leaves found ahead_woken (set hs found.place head) ≡ ack_step hs f i z h unsent gaps
+  ack_settles = go (is_done (answer_of rows)) refl
+    where
+      go : (t : Bool) → is_done (answer_of rows) ≡ t → leaves found ahead_woken (set hs found.place head) ≡ ack_step hs f i z h unsent gaps
+      go true e = taken_is e
+      go false e = not_taken_is e
+
+  -- call by call
+  module _ (d : Found) (ed : d ≡ found) (n : SequenceNumber) (en : n ≡ acked_by z h) (b : Answer) (eb : b ≡ beside_ack f d h) where
+    abbrev with_acked : ReaderHead
+    with_acked = record { id = d.head.id; reliable = d.head.reliable; acked = n }
+
+    with_acked_is : with_acked ≡ head
+    with_acked_is = λ j. record { id = (ed j).head.id; reliable = (ed j).head.reliable; acked = en j }
+
+    module _ (a : AckedFrontier) (ea : a ≡ front_with hs i with_acked) (w : Woken) (ew : w ≡ woken (acked_of f a)) (r : AckNacked) (u g : List ℕ) (o : Gives2 r u g (taken_by b w.told.answer))
+        (m : Woken) (em : m ≡ after r.answer w f) (l : List ReaderHead) (el : l ≡ list_after m hs (set hs d.place with_acked)) where
+      woken_by : w ≡ ahead_woken
+      woken_by = ew ∙ ap (λ (x : AckedFrontier). woken (acked_of f x)) (ea ∙ ap (front_with hs i) with_acked_is)
+
+      moved_is : m ≡ after (taken_by b w.told.answer).result.answer w f
+      moved_is = em ∙ ap (λ (x : AckNacked). after x.answer w f) o.result
+
+      decided_is : ack_left (taken_by b w.told.answer) w f hs (set hs d.place with_acked) ≡ ack_step hs f i z h unsent gaps
+      decided_is =
+          (λ j. ack_left (taken_by ((eb ∙ ap (λ (x : Found). beside_ack f x h) ed) j) (woken_by j).told.answer) (woken_by j) f hs (set hs (ed j).place (with_acked_is j)))
+          ∙ ack_settles
+
+      pub ack_decided : Gives4 (record { told = m.told; left_out = r.left_out; proxy = r.proxy }) l m.flow u g (ack_step hs f i z h unsent gaps)
+      ack_decided =
+          subst (Gives4 (record { told = m.told; left_out = r.left_out; proxy = r.proxy }) l m.flow u g) decided_is
+          (record {
+            result = λ j. record { told = (moved_is j).told; left_out = (o.result j).left_out; proxy = (o.result j).proxy };
+            first = el ∙ ap (λ (x : Woken). list_after x hs (set hs d.place with_acked)) moved_is;
+            second = ap (λ (x : Woken). x.flow) moved_is;
+            third = o.first;
+            fourth = o.second;
+          })

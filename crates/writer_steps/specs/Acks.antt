@@ -13,16 +13,11 @@ use Rattle.rtps_reader_proxy.specs.Reader.{acked_after}
 use Rattle.rtps_reader_proxy.specs.Acks.{ack_nacked_among}
 use Rattle.reader_list.specs.declared.heads.ReaderHead.{ReaderHead}
 use Rattle.reader_list.specs.declared.calls.Found.{Found}
-use Rattle.reader_list.specs.declared.ends.Put.{Put}
-use Rattle.reader_list.specs.declared.walk.Seen.{Seen}
 use Rattle.reader_list.specs.Slots.{found_of, front_of, ack_of}
-use Rattle.reader_list.specs.Walk.{acked_end, found_end, walk_asking, front_with}
 use Rattle.writer_send_buffer.specs.declared.flow.WriterSendBuffer.{WriterSendBuffer}
 use Rattle.writer_send_buffer.specs.declared.frontiers.Woken.{Woken}
 use Rattle.writer_steps.specs.declared.acks.AckTold.{AckTold}
-use Rattle.writer_steps.specs.declared.acks.AckSettled.{AckSettled}
-use Rattle.writer_steps.specs.declared.stores.Settled.{Settled}
-use Rattle.writer_steps.specs.Readers.{stored_of, beside_flow, after, list_after, settled_of}
+use Rattle.writer_steps.specs.Readers.{stored_of, beside_flow, after, list_after}
 
 -- the acked that the ACKNACK leaves, where it is taken
 abbrev pub acked_by : SequenceNumberSet → ReaderProxy → SequenceNumber
@@ -61,26 +56,3 @@ ack_left nacked w f old new =
 abbrev pub ack_step : List ReaderHead → WriterSendBuffer → ℕ → SequenceNumberSet → ReaderProxy → List ℕ → List ℕ → Left4 AckTold (List ReaderHead) WriterSendBuffer (List ℕ) (List ℕ)
 ack_step hs f i set h unsent gaps =
     ack_left (ack_nacked_among (beside_ack f (found_of hs i) h) (ack_stored hs f i set h).told.answer set f.last h unsent gaps) (ack_stored hs f i set h) f hs (acked_list hs i set h)
-
--- WITHIN: what is decided of one walk over the list
-
-abbrev pub ack_put : SequenceNumberSet → ReaderProxy → Seen → Put
-ack_put set h s = acked_end (walk_asking (acked_by set h) s)
-
-abbrev pub ack_ahead : WriterSendBuffer → SequenceNumberSet → ReaderProxy → Seen → Woken
-ack_ahead f set h s = stored_of (front_with (ack_put set h s) (walk_asking (acked_by set h) s)) f
-
-abbrev pub ack_settled_by : Settled → Left2 AckNacked (List ℕ) (List ℕ) → Left2 AckSettled (List ℕ) (List ℕ)
-ack_settled_by d n =
-    record {
-      result = record { answered = record { told = d.told; left_out = n.result.left_out; proxy = n.result.proxy }; at = d.at; head = d.head; flow = d.flow };
-      first = n.first;
-      second = n.second;
-    }
-
-abbrev pub ack_taken : WriterSendBuffer → ReaderProxy → List ℕ → List ℕ → SequenceNumberSet → Seen → Left2 AckNacked (List ℕ) (List ℕ)
-ack_taken f h unsent gaps set s = ack_nacked_among (beside_ack f (found_end s) h) (ack_ahead f set h s).told.answer set f.last h unsent gaps
-
-abbrev pub ack_settled : WriterSendBuffer → ReaderProxy → List ℕ → List ℕ → SequenceNumberSet → Seen → Left2 AckSettled (List ℕ) (List ℕ)
-ack_settled f h unsent gaps set s =
-    ack_settled_by (settled_of (after (ack_taken f h unsent gaps set s).result.answer (ack_ahead f set h s) f) (ack_put set h s)) (ack_taken f h unsent gaps set s)

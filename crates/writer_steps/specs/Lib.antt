@@ -3,5 +3,4 @@ pub mod Send
 pub mod Readers
 pub mod Acks
 pub mod Frags
-pub mod Two
 pub mod Many

@@ -1,10 +1,9 @@
 -- THE SEND STEP FOR MANY: the single step again and again, with the place of what each time is sent. Assumes nothing.
-use Rattle.std.specs.Prelude.{refl, ℕ, zero, suc, ◌≤◌, min, Bool, not, cond, ◌&&◌, List, [], ◌∷◌, map, eqb, length}
+use Rattle.std.specs.Prelude.{refl, ℕ, zero, suc, ◌≤◌, min, Bool, not, cond, ◌&&◌, List, [], ◌∷◌, map, length}
 use Rattle.sets.specs.Sets.{empty}
 use Rattle.numbers.specs.Number.{rank_of, number_at}
-use Rattle.numbers.specs.Refusals.{row, answer_of, unless, done, is_done, Rows}
+use Rattle.numbers.specs.Refusals.{row, unless, done, is_done, Rows}
 use Rattle.numbers.specs.Promise.{Left1, Left4}
-use Rattle.numbers.specs.declared.answer.Answer.{Answer}
 use Rattle.rising.specs.Runs.{filled}
 use Rattle.rtps_reader_proxy.specs.declared.proxy.ReaderProxy.{ReaderProxy}
 use Rattle.rtps_reader_proxy.specs.Record.{unsent_coherent}
@@ -92,7 +91,3 @@ length_for f lens n = (located_of f lens (number_at n)).length
 pub record Placeable (numbers starts lengths : List ℕ) : Type 0 where
   pub starts_fit : length numbers ≤ length starts
   pub fitting_lengths : length numbers ≤ length lengths
-
--- the answer of the call on the unsent room, or 14
-abbrev pub emptied : Answer → Bool → Answer
-emptied a nothing = answer_of (row 1 refl (eqb a.number 1) ∷ row 14 refl nothing ∷ [])

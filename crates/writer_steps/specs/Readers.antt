@@ -1,5 +1,5 @@
 -- The writer "stores the frontier after each match, departure and accepted ACKNACK". Assumes nothing.
-use Rattle.std.specs.Prelude.{refl, ℕ, not, cond, List, [], ◌∷◌}
+use Rattle.std.specs.Prelude.{refl, ℕ, not, cond, List, [], ◌∷◌, set, Result, Ok, Err}
 use Rattle.numbers.specs.Number.{rank_of}
 use Rattle.numbers.specs.Refusals.{row, answer_of, is_done, Rows}
 use Rattle.numbers.specs.Answers.{earlier, answered}
@@ -8,15 +8,13 @@ use Rattle.numbers.specs.declared.answer.Answer.{Answer}
 use Rattle.reader_list.specs.declared.heads.ReaderHead.{ReaderHead}
 use Rattle.reader_list.specs.declared.calls.Front.{Front}
 use Rattle.reader_list.specs.declared.calls.Match.{Match}
-use Rattle.reader_list.specs.declared.ends.Put.{Put}
-use Rattle.reader_list.specs.declared.walk.Seen.{Seen}
+use Rattle.reader_list.specs.declared.changes.Slot.{Slot}
 use Rattle.reader_list.specs.Slots.{front_of, match_of, depart_of}
-use Rattle.reader_list.specs.Walk.{match_end, depart_end, front_with}
+use Rattle.reader_list.specs.Ahead.{front_with}
 use Rattle.writer_send_buffer.specs.declared.flow.WriterSendBuffer.{WriterSendBuffer}
 use Rattle.numbers.specs.declared.answer.Told.{Told}
 use Rattle.writer_send_buffer.specs.declared.frontiers.Woken.{Woken}
 use Rattle.writer_send_buffer.specs.Buffer.{flow_coherent, acked_of, told_no, woken}
-use Rattle.writer_steps.specs.declared.stores.Settled.{Settled}
 
 -- refused, with the flow record as it was
 abbrev pub not_stored : WriterSendBuffer → Answer → Woken
@@ -59,16 +57,8 @@ depart_step hs f i = list_step hs f (depart_of hs i)
 abbrev pub frontier_in : WriterSendBuffer → ℕ
 frontier_in f = cond f.present (rank_of f.acked) 0
 
--- WITHIN: what is decided of one walk over the list: the answer, the slot to store, and the flow record
+-- WITHIN: by the slot that the change would store
 
-abbrev pub settled_of : Woken → Put → Settled
-settled_of w p = record { told = w.told; at = cond (is_done w.told.answer) p.at 18446744073709551615; head = p.head; flow = w.flow }
-
-abbrev pub put_settled : WriterSendBuffer → Put → Seen → Settled
-put_settled f p s = settled_of (after (beside_flow p.answer f) (stored_of (front_with p s) f) f) p
-
-abbrev pub match_settled : WriterSendBuffer → Seen → Settled
-match_settled f s = put_settled f (match_end s) s
-
-abbrev pub depart_settled : WriterSendBuffer → Seen → Settled
-depart_settled f s = put_settled f (depart_end s) s
+abbrev pub change_step : List ReaderHead → WriterSendBuffer → ℕ → Result Slot Answer → Left2 Told (List ReaderHead) WriterSendBuffer
+change_step hs f i (Ok s) = step_leaves (woken (acked_of f (front_with hs i s.head))) hs (set hs s.place s.head)
+change_step hs f i (Err a) = record { result = told_no (beside_flow a f); first = hs; second = f }

@@ -23,10 +23,9 @@ pub fn frags_settled(
 ) -> Changed
     ensures { Gives2 result samples.new words.new (nack_frag_of found n set proxy samples.old words.old) }
 {
-    let looked = found.answer;
-    if looked.number != 0 {
+    if !found.answer.is_done() {
         let own = proxy.check_request(samples, words, n, set);
-        let answer = earlier(own, looked);
+        let answer = earlier(own, found.answer);
         return Changed { answer, proxy };
     }
     proxy.mark_frags_requested(samples, words, n, set)

@@ -2,14 +2,12 @@
 #![tactic(auto)]
 
 pub mod acks;
+mod flows;
 pub mod frags;
 pub mod many;
 pub mod readers;
 pub mod send;
-pub mod stores;
-pub mod two;
 
 pub use acks::AckTold;
 pub use many::SentMany;
 pub use send::Sent;
-pub use two::{AckTaken2, Listed2};

@@ -1,11 +1,10 @@
 // The send step for many: the unsent numbers are taken from the front, under one check for all of them, and each is told with its place in the store.
-ghost use Rattle.std.specs.Prelude.{◌≡◌, map, eqb};
+ghost use Rattle.std.specs.Prelude.{◌≡◌, map};
 ghost use Rattle.numbers.specs.Promise.{Gives4};
 ghost use Rattle.rising.specs.Runs.{filled};
-ghost use Rattle.writer_steps.specs.Many.{located_start, start_for, length_for, Placeable, emptied, send_many_of};
+ghost use Rattle.writer_steps.specs.Many.{located_start, start_for, length_for, Placeable, send_many_of};
 
-use numbers::arith::smaller;
-use numbers::{Answer, Refusal, SequenceNumber};
+use numbers::{Answer, SequenceNumber};
 use rtps_reader_proxy::ReaderProxy;
 use writer_send_buffer::{Located, WriterSendBuffer};
 
@@ -26,17 +25,11 @@ impl SentMany {
 fn start_of(at: Located) -> u64
     ensures { result ≡ located_start at }
 {
-    let answer = at.answer;
-    if answer.number != 0 {
-        return SentMany::NO_START;
+    if at.answer.is_done() {
+        at.start as u64
+    } else {
+        SentMany::NO_START
     }
-    at.start as u64
-}
-
-fn length_of(at: Located) -> u64
-    ensures { result ≡ at.length }
-{
-    at.length as u64
 }
 
 // Where each of the numbers lies.
@@ -50,23 +43,11 @@ fn places(
     requires { Placeable numbers.now starts.old lengths.old }
     ensures { (starts.new ≡ filled (map (start_for flow lens.now) numbers.now) starts.old) × (lengths.new ≡ filled (map (length_for flow lens.now) numbers.now) lengths.old) }
 {
-    let mut i = 0;
-    while i < numbers.len() {
-        let at = flow.located(lens, SequenceNumber::from_rank(numbers[i]));
+    for (i, number) in numbers.iter().enumerate() {
+        let at = flow.located(lens, SequenceNumber::from_rank(*number));
         starts[i] = start_of(at);
-        lengths[i] = length_of(at);
-        i += 1;
+        lengths[i] = at.length as u64;
     }
-}
-
-// What was answered, or 14 where nothing is unsent.
-fn emptied(answer: Answer, count: usize) -> Answer
-    ensures { result ≡ emptied answer (eqb count 0) }
-{
-    let incoherent = answer.number == Refusal::Incoherent as u32;
-    Answer::done()
-        .unless(count == 0, Refusal::Nothing)
-        .unless(incoherent, Refusal::Incoherent)
 }
 
 pub fn send_many(
@@ -82,29 +63,26 @@ pub fn send_many(
     ensures { Gives4 result unsent.new numbers.new starts.new lengths.new (send_many_of flow room lens.now proxy unsent.old numbers.old starts.old lengths.old) }
 {
     if !flow.is_coherent_store(room, lens) {
-        let answer = Answer::coherence(false);
         return SentMany {
-            answer,
+            answer: Answer::coherence(false),
             count: 0,
             proxy,
         };
     }
-    let k = smaller(numbers.len(), smaller(starts.len(), lengths.len()));
+    let k = numbers.len().min(starts.len().min(lengths.len()));
     let taken = proxy.take_unsent(unsent, &mut numbers[..k]);
-    let answer = emptied(taken.answer, proxy.unsent_count);
-    if answer.number != 0 {
+    let answer = Answer::found(taken.answer.is_done(), proxy.unsent_count == 0);
+    if !answer.is_done() {
         return SentMany {
             answer,
             count: 0,
             proxy,
         };
     }
-    let count = taken.count;
-    places(flow, lens, &numbers[..count], starts, lengths);
-    let after = taken.proxy;
+    places(flow, lens, &numbers[..taken.count], starts, lengths);
     SentMany {
         answer,
-        count,
-        proxy: after,
+        count: taken.count,
+        proxy: taken.proxy,
     }
 }

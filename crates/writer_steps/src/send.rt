@@ -24,29 +24,23 @@ pub fn send_first(flow: WriterSendBuffer, proxy: ReaderProxy, unsent: &mut [u64]
 {
     let retained = flow.first_change_sequence_number();
     let next = proxy.first_unsent_change(unsent);
-    let coherent = retained.answer;
-    let found = next.answer;
-    let answer = earlier(coherent, found);
-    if answer.number != 0 {
-        let none = SequenceNumber::from_rank(0);
+    let answer = earlier(retained.answer, next.answer);
+    if !answer.is_done() {
         return Sent {
             answer,
-            number: none,
+            number: SequenceNumber::from_rank(0),
             data: false,
             proxy,
         };
     }
-    let number = next.number;
     let first = flow.first.rank();
     let last = flow.last.rank();
-    let n = number.rank();
-    let marked = proxy.mark_change_sent(unsent, number);
-    let after = marked.proxy;
-    let answer = Answer::done();
+    let n = next.number.rank();
+    let marked = proxy.mark_change_sent(unsent, next.number);
     Sent {
         answer,
-        number,
+        number: next.number,
         data: (first <= n) & (n <= last),
-        proxy: after,
+        proxy: marked.proxy,
     }
 }

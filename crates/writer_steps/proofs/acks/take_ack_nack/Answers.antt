@@ -1,26 +1,24 @@
--- `take_ack_nack` meets its contract: it looks at the list with `look_for`, and stores what `ack_settled` decides. Assumes nothing.
-use Rattle.std.proofs.Common.{◌≡◌, List, sym, ◌∙◌, subst, arith}
-use lib.ListN.{set}
-use lib.Seq.{set_out}
-use Rattle.numbers.specs.Promise.{Gives2, Gives4}
-use Rattle.reader_list.specs.declared.heads.ReaderHead.{ReaderHead}
-use Rattle.reader_list.specs.declared.walk.Seen.{Seen}
-use Rattle.writer_steps.specs.Acks.{ack_settled, ack_step}
-use Rattle.writer_steps.proofs.Settles.{ack_settles}
+-- `take_ack_nack` meets its contract: what is decided before anything is stored is the step. Assumes nothing.
+use Rattle.std.proofs.Common.{◌≡◌, ◌∙◌, sym, ap, Bool, cond, set}
+use Rattle.writer_steps.specs.Readers.{beside_flow, list_after}
+use Rattle.writer_steps.proofs.Settles.{ack_decided}
 use Rattle.writer_steps.proofs.acks.take_ack_nack.Goals as goal
-use Rattle.writer_steps.proofs.acks.take_ack_nack.Goals.{then-at-list, else-at-list}
+use Rattle.writer_steps.proofs.acks.take_ack_nack.Goals.{then-is_done, else-is_done}
 
 pub returns : goal.returns
 returns c =
-    let list = c.args.list.now in
-    let flow = c.args.flow.now in
-    let unsent = c.args.unsent.now in
-    let gaps = c.args.gaps.now in
-    let d = c.ack_settled-d in
-    let decided = subst (λ (s : Seen). Gives2 d.result d.new.unsent d.new.gaps (ack_settled flow c.args.proxy unsent gaps c.args.set s)) c.look_for-seen.ensures d.ensures in
-    let stored : c.if-at-list.list ≡ set list d.result.at d.result.head = elim c.if-at-list.branch [
-      | then-at-list w ↦ w.list-is
-      | else-at-list w ↦ w.list-is ∙ sym (set_out list d.result.at d.result.head w.if-at-list.false)
+    let a = c.args in
+    let hs = a.list.now in
+    let found = c.matched_reader_lookup-found in
+    let woken = c.with_acked_frontier-woken in
+    let nacked = c.handle_ack_nack_among-nacked in
+    let moved = c.after-moved in
+    let new = set hs found.result.place (record { id = found.result.head.id; reliable = found.result.head.reliable; acked = c.acked_by.result }) in
+    let done = sym c.is_done.ensures in
+    let stored : c.if-is_done.list ≡ list_after moved.result hs new = elim c.if-is_done.branch [
+      | then-is_done w ↦ w.list-is ∙ w.store.ensures ∙ sym (ap (λ (t : Bool). cond t new hs) (done ∙ w.if-is_done.true))
+      | else-is_done w ↦ w.list-is ∙ sym (ap (λ (t : Bool). cond t new hs) (done ∙ w.if-is_done.false))
     ] in
-    subst (λ (l : List ReaderHead). Gives4 d.result.answered l d.result.flow d.new.unsent d.new.gaps (ack_step list flow c.args.id c.args.set c.args.proxy unsent gaps)) (sym stored)
-    (ack_settles list flow c.args.proxy unsent gaps c.args.id c.args.set (omega arith) d.result d.new.unsent d.new.gaps decided)
+    ack_decided hs a.flow.now a.proxy a.unsent.now a.gaps.now a.id a.set found.result found.ensures c.acked_by.result c.acked_by.ensures
+    c.with_flow-beside.result (c.with_flow-beside.ensures ∙ ap (λ x. beside_flow x a.flow.now) c.there_for.ensures) c.front_with.result c.front_with.ensures woken.result woken.ensures
+    nacked.result nacked.new.unsent nacked.new.gaps nacked.ensures moved.result moved.ensures c.if-is_done.list stored
