@@ -1,7 +1,7 @@
 -- Laws that belong to no one function.
 pub mod Parts
-pub mod Tells
 pub mod Walks
+pub mod Tells
 pub mod Writes
 pub mod Unchanged
 pub mod WholeRooms

@@ -1,34 +1,34 @@
 -- A coherent reader is told by what is put into its room, and a free place is left as it is by both. Assumes nothing.
-use Prim.Native.Nat.{ℕ, ◌+◌, ◌-◌, ◌≤◌}
+use Prim.Native.Nat.{ℕ, ◌≤◌}
 use mathlib.Core.Path.{◌≡◌, refl, sym, ap, ◌∙◌}
 use mathlib.Core.Bool.{Bool, true, false, not, cond, ◌&&◌}
 use mathlib.Core.Logic.{◌⊎◌, inl, inr}
 use mathlib.Core.List.{List, [], ◌∷◌, map}
 use native.Mathlib.Nat.{suc-ne-zero, not-suc-le-zero}
 use native.Mathlib.Omega.{arith}
-use lib.Dec.{ltb, leb, eqb}
-use lib.ListN.{length, drop, get_or, set, length-take}
-use borrow.Author.Tests.{eqb-true, ltb-true}
+use lib.Dec.{leb, eqb}
+use lib.ListN.{length, drop, length-take}
+use borrow.Author.Tests.{eqb-true}
 use Rattle.sets.proofs.Bools.{and_left, and_right, and_no, or_false}
 use Rattle.numbers.specs.Number.{rank_of, is_sample}
 use Rattle.numbers.specs.Refusals.{row, answer_of, is_done}
-use Rattle.numbers.specs.Promise.{Left1, Gives1}
+use Rattle.numbers.specs.Promise.{Gives1}
 use Rattle.numbers.specs.declared.answer.Answer.{Answer}
 use Rattle.numbers.specs.declared.sequence_number.SequenceNumber.{SequenceNumber}
-use Rattle.rising.specs.Runs.{run_coherent, in_room, newest}
+use Rattle.rising.specs.Runs.{run_with}
 use Rattle.rtps_reader_proxy.specs.Parts.{count_unsent}
 use Rattle.rtps_reader_proxy.specs.declared.proxy.ReaderProxy.{ReaderProxy}
 use Rattle.rtps_reader_proxy.specs.declared.proxy.Changed.{Changed}
-use Rattle.rtps_reader_proxy.specs.Record.{proxy_coherent, room_for, unsent_coherent, changed}
+use Rattle.rtps_reader_proxy.specs.Record.{room_for, unsent_coherent, changed}
+use Rattle.rtps_reader_proxy.specs.Reader.{notified}
 use Rattle.rtps_reader_proxy.specs.Unsent.{notified_of}
-use Rattle.rtps_reader_proxy.proofs.Ends.{appended}
-use Rattle.rtps_reader_proxy.proofs.UnsentCalls.{unsent-is, notify_refused, notify_is}
+use Rattle.rtps_reader_proxy.proofs.UnsentCalls.{unsent-is, unsent_refused, notify-is}
 use Rattle.reader_record.proofs.Whole.{proxy-is}
 use Rattle.writer_send_buffer.specs.declared.flow.Numbered.{Numbered}
 use Rattle.writer_write.specs.Write.{UnsentPart, told, told_all}
 use Rattle.writer_write.specs.Places.{is_free, own_of, reader_at, readers_from}
 use Rattle.writer_write.specs.Coherent.{place_coherent, places_coherent_from}
-use Rattle.writer_write.specs.Turns.{run_with, with_number, put_one}
+use Rattle.writer_write.specs.Turns.{with_number, put_one}
 use Rattle.writer_write.proofs.Parts.{own_capped}
 
 -- what is done to a reader, where the write is answered m
@@ -58,7 +58,7 @@ module _ (n : SequenceNumber) (k : UnsentPart) where
   as_told g = λ j. record { proxy = (g.result j).proxy; unsent = g.first j }
 
   refused : ((rows (fits && unsent_coherent k.proxy k.unsent)).number ≡ 0 → ⊥) → k ≡ told n k
-  refused z = as_told (notify_refused n k.proxy k.unsent fits (is_sample n) (rows (fits && unsent_coherent k.proxy k.unsent)) refl refl refl z)
+  refused z = as_told (unsent_refused k.proxy k.unsent fits (row 2 refl (not (is_sample n)) ∷ []) (rows (fits && unsent_coherent k.proxy k.unsent)) refl (notified (rank_of n)) z)
 
   -- where it isn't coherent, it stays as it is
   not_coherent : unsent_coherent k.proxy k.unsent ≡ false → k ≡ told n k
@@ -66,30 +66,14 @@ module _ (n : SequenceNumber) (k : UnsentPart) where
 
   module _ (ok : (fits && unsent_coherent k.proxy k.unsent) ≡ true) where
     -- where it is, the number joins at the end or at its place
-    appends : (r : ℕ) → Gives1 (run_with r k.proxy.unsent_count k.unsent).result (run_with r k.proxy.unsent_count k.unsent).first (in_room (newest (length k.unsent) r) k.proxy.unsent_count k.unsent)
-    appends r = go (ltb count (length u) && ltb (get_or u (count - 1) 0) r) refl
-      where
-        count : ℕ
-        count = k.proxy.unsent_count
-
-        u : List ℕ
-        u = k.unsent
-
-        go : (t : Bool) → (ltb count (length u) && ltb (get_or u (count - 1) 0) r) ≡ t
-            → Gives1 (cond {A = Left1 ℕ (List ℕ)} t (record { result = count + 1; first = set u count r }) (in_room (newest (length u) r) count u)).result
-            (cond {A = Left1 ℕ (List ℕ)} t (record { result = count + 1; first = set u count r }) (in_room (newest (length u) r) count u)).first (in_room (newest (length u) r) count u)
-        go true e = appended count r u run (ltb-true (get_or u (count - 1) 0) r (and_right (ltb count (length u)) (ltb (get_or u (count - 1) 0) r) e)) (ltb-true count (length u) (and_left (ltb count (length u)) (ltb (get_or u (count - 1) 0) r) e))
-          where
-            run : run_coherent 0 count u ≡ true
-            run =
-                and_right (leb (length u) k.proxy.unsent_cap) (run_coherent 0 count u)
-                (and_right (proxy_coherent k.proxy) (leb (length u) k.proxy.unsent_cap && run_coherent 0 count u) (and_right fits (unsent_coherent k.proxy u) ok))
-        go false e = record { result = refl; first = refl }
-
     joins : is_sample n ≡ true → with_number (rank_of n) k ≡ told n k
     joins e =
-        as_told (notify_is n k.proxy k.unsent fits (is_sample n) (rows (fits && unsent_coherent k.proxy k.unsent)) refl refl refl (λ j. (answer_of (row 1 refl (not (ok j)) ∷ row 2 refl (not (e j)) ∷ [])).number) (rank_of n) (run_with (rank_of n) k.proxy.unsent_count k.unsent).result
-        (run_with (rank_of n) k.proxy.unsent_count k.unsent).first (changed (rows (fits && unsent_coherent k.proxy k.unsent)) (with_number (rank_of n) k).proxy) refl refl (appends (rank_of n)))
+        as_told (notify-is n k.proxy k.unsent fits (is_sample n) (rows (fits && unsent_coherent k.proxy k.unsent)) refl refl refl
+        (changed (rows (fits && unsent_coherent k.proxy k.unsent)) (with_number (rank_of n) k).proxy) (with_number (rank_of n) k).unsent
+        (λ z. absurd (z (λ j. (answer_of (row 1 refl (not (ok j)) ∷ row 2 refl (not (e j)) ∷ [])).number)))
+        {k = λ m. m ≡ (run_with (rank_of n) k.proxy.unsent_count k.unsent).result}
+        (λ z. ((run_with (rank_of n) k.proxy.unsent_count k.unsent).result, refl, refl))
+        (λ m em. record { result = em; first = refl }))
 
 -- A FREE PLACE: its cap and its count are 0
 pub free-cap : (h : ReaderProxy) → is_free h ≡ true → h.unsent_cap ≡ 0

@@ -17,10 +17,15 @@ use Rattle.writer_write.specs.Coherent.{places_coherent}
 use Rattle.writer_write.specs.InPlace.{LeftByWrite, side_by_side, write_incoherent, write_of}
 use Rattle.writer_write.proofs.Parts.{own_in}
 use Rattle.writer_write.proofs.Writes.{by_rows}
+use Rattle.numbers.specs.Number.{rank_of}
+use Rattle.numbers.specs.Promise.{Gives2}
+use Rattle.writer_write.specs.Write.{UnsentPart}
+use Rattle.writer_write.specs.Turns.{with_number, put_in_all}
+use Rattle.writer_write.proofs.Tells.{map_same}
 
 -- the readers laid where they lay
 module _ (s : ℕ) where
-  heads_back : (hs : List ReaderProxy) (v : List ℕ) → proxies_of (readers_from s hs v) ≡ hs
+  pub heads_back : (hs : List ReaderProxy) (v : List ℕ) → proxies_of (readers_from s hs v) ≡ hs
   heads_back [] v = refl
   heads_back (h ∷ hs) v = ap (λ (l : List ReaderProxy). h ∷ l) (heads_back hs (drop s v))
 
@@ -34,7 +39,7 @@ module _ (s : ℕ) where
       own_start (suc k) [] = refl
       own_start (suc k) (x ∷ w) = ap (λ (r : List ℕ). x ∷ r) (own_start k w)
 
-  room_back : (hs : List ReaderProxy) (v : List ℕ) → laid_from s (readers_from s hs v) v ≡ v
+  pub room_back : (hs : List ReaderProxy) (v : List ℕ) → laid_from s (readers_from s hs v) v ≡ v
   room_back [] v = refl
   room_back (h ∷ hs) v = (λ j. start_back (own_of s h) v (own_in s h) j ++ room_back hs (drop s v) j) ∙ take-append-drop s v
 
@@ -66,3 +71,19 @@ module _ (f : WriterSendBuffer) (store lens payload : List ℕ) (opted : Bool) (
       go : (t : Bool) → is_done (by_test t).writer.result.answer ≡ false → laid_as (by_test t) ≡ unchanged (by_test t).writer.result
       go true r = inner (is_done (answer_of (write_rows f (length store) lens (length payload) opted))) refl r
       go false r = same-readers (by_test false).writer.result
+
+-- where no number was given, nothing is put
+module _ (m : Numbered) (hs : List ReaderProxy) (u : List ℕ) where
+  abbrev s : ℕ
+  s = stride_of (length hs) u
+
+  abbrev put_by : Bool → List UnsentPart
+  put_by t = map (λ k. cond t (with_number (rank_of m.number) k) k) (readers_in hs u)
+
+  pub not_put : is_done m.answer ≡ false → Gives2 m hs u (put_in_all m hs u)
+  not_put e =
+      record {
+        result = refl;
+        first = sym (ap (λ (t : Bool). proxies_of (put_by t)) e ∙ ap proxies_of (map_same (readers_in hs u)) ∙ heads_back s hs u);
+        second = sym (ap (λ (t : Bool). laid_from s (put_by t) u) e ∙ ap (λ (ks : List UnsentPart). laid_from s ks u) (map_same (readers_in hs u)) ∙ room_back s hs u);
+      }

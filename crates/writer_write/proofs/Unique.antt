@@ -11,7 +11,7 @@ use Rattle.writer_send_buffer.specs.declared.flow.Numbered.{Numbered}
 use Rattle.writer_send_buffer.specs.declared.samples.Admitted.{Admitted}
 use Rattle.writer_send_buffer.specs.Samples.{handed}
 use Rattle.writer_write.specs.InPlace.{LeftByWrite, Wrote}
-use Rattle.writer_write.specs.Turns.{all_coherent_at, writer_of, put_in_all}
+use Rattle.writer_write.specs.Turns.{writer_of, put_in_all}
 
 pub one_write : {r s : Numbered} {f g : WriterSendBuffer} {store store' lens lens' u u' : List ℕ} {hs hs' : List ReaderProxy} {o : LeftByWrite} → Wrote r f store lens hs u o → Wrote s g store' lens' hs' u' o
     → (r ≡ s) × (f ≡ g) × (store ≡ store') × (lens ≡ lens') × (hs ≡ hs') × (u ≡ u')
@@ -19,9 +19,6 @@ one_write p q =
     (one p.is-result q.is-result, one p.is-flow q.is-flow, one p.is_store q.is_store, one p.is-lens q.is-lens, one p.is-proxies q.is-proxies, one p.is-unsent q.is-unsent)
 
 module _ (hs ks ls : List ReaderProxy) (u v w : List ℕ) where
-  pub one_look : (t a b : Bool) → Gives2 a ks v (all_coherent_at t hs u) → Gives2 b ls w (all_coherent_at t hs u) → (a ≡ b) × (ks ≡ ls) × (v ≡ w)
-  one_look t a b p q = one2 p q
-
   pub one_put : (m a b : Numbered) → Gives2 a ks v (put_in_all m hs u) → Gives2 b ls w (put_in_all m hs u) → (a ≡ b) × (ks ≡ ls) × (v ≡ w)
   one_put m a b p q = one2 p q
 

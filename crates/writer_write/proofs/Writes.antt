@@ -1,8 +1,8 @@
 -- The readers looked at, the sample admitted and its number put are the write. Assumes nothing.
 use Prim.Native.Nat.{ℕ, ◌+◌, ◌≤◌}
-use mathlib.Core.Path.{◌≡◌, refl, sym, ap, subst, ◌∙◌}
+use mathlib.Core.Path.{◌≡◌, refl, sym, ap, ◌∙◌}
 use mathlib.Core.Bool.{Bool, true, false, cond}
-use mathlib.Core.List.{List, [], ◌∷◌, map}
+use mathlib.Core.List.{List, map}
 use native.Mathlib.Omega.{arith}
 use lib.Dec.{leb}
 use lib.ListN.{length, set}
@@ -10,10 +10,8 @@ use borrow.Author.Tests.{eqb-true, le-leb}
 use Rattle.sets.proofs.Bools.{and_both, clash}
 use Rattle.numbers.specs.Capacities.{top_number}
 use Rattle.numbers.specs.Number.{rank_of, valid_rank, number_at}
-use Rattle.numbers.specs.Refusals.{row, answer_of, is_done, done}
+use Rattle.numbers.specs.Refusals.{answer_of, is_done, done}
 use Rattle.numbers.specs.Promise.{Left3, Gives2}
-use Rattle.numbers.specs.declared.answer.Answer.{Answer}
-use Rattle.numbers.specs.declared.sequence_number.SequenceNumber.{SequenceNumber}
 use Rattle.numbers.proofs.Ranks.{rank_back}
 use Rattle.rtps_reader_proxy.specs.declared.proxy.ReaderProxy.{ReaderProxy}
 use Rattle.writer_send_buffer.specs.declared.flow.WriterSendBuffer.{WriterSendBuffer}
@@ -27,20 +25,10 @@ use Rattle.writer_write.specs.Write.{UnsentPart, told_all, Written, write_step}
 use Rattle.writer_write.specs.Places.{stride_of, readers_in, proxies_of, laid_from}
 use Rattle.writer_write.specs.Coherent.{places_coherent}
 use Rattle.writer_write.specs.InPlace.{write_incoherent, write_in, write_of, Wrote}
-use Rattle.writer_write.specs.Turns.{all_coherent_at, writer_of, put_one, put_in_all}
+use Rattle.writer_write.specs.Turns.{writer_of, put_one, put_in_all}
 use Rattle.writer_write.proofs.Tells.{Given, map_same, puts_told}
 
 module _ (f : WriterSendBuffer) (store lens payload : List ℕ) (opted : Bool) where
-  -- the writer's part
-  pub admit-incoherent : (t : Bool) → t ≡ false → (a : Answer) → a ≡ answer_of (row 1 refl true ∷ []) → (n : SequenceNumber) → n ≡ number_at 0
-      → Gives2 (record { numbered = record { answer = a; number = n }; flow = f }) store lens (handed (writer_of t f store lens payload opted))
-  admit-incoherent t e a ea n en =
-      subst (λ (b : Bool). Gives2 (record { numbered = record { answer = a; number = n }; flow = f }) store lens (handed (writer_of b f store lens payload opted))) (sym e)
-      (record { result = λ j. record { numbered = record { answer = ea j; number = en j }; flow = f }; first = refl; second = refl })
-
-  pub admit-coherent : (t : Bool) → t ≡ true → (r : Admitted) (s l : List ℕ) → Gives2 r s l (handed (admit_of f store lens payload opted)) → Gives2 r s l (handed (writer_of t f store lens payload opted))
-  admit-coherent t e r s l g = subst (λ (b : Bool). Gives2 r s l (handed (writer_of b f store lens payload opted))) (sym e) g
-
   -- by whether a row holds
   abbrev pub by_rows : Bool → Left3 Numbered WriterSendBuffer (List ℕ) (List ℕ)
   by_rows t =
@@ -79,24 +67,23 @@ module _ (f : WriterSendBuffer) (store lens payload : List ℕ) (opted : Bool) w
     both_ways true = refl
     both_ways false = refl
 
-    pub wrote : (t : Bool) (hs₁ : List ReaderProxy) (u₁ : List ℕ) → Gives2 t hs₁ u₁ (all_coherent_at true hs u) → (m : Admitted) (s l : List ℕ) → Gives2 m s l (handed (writer_of t f store lens payload opted))
-        → (r : Numbered) (hs₂ : List ReaderProxy) (u₂ : List ℕ) → Gives2 r hs₂ u₂ (put_in_all m.numbered hs₁ u₁) → Wrote r m.flow s l hs₂ u₂ (write_of f store lens payload opted hs u)
-    wrote t hs₁ u₁ e₁ m s l e₂ r hs₂ u₂ e₃ =
+    pub wrote : (t : Bool) → t ≡ places_coherent hs u → (m : Admitted) (s l : List ℕ) → Gives2 m s l (handed (writer_of t f store lens payload opted))
+        → (r : Numbered) (hs' : List ReaderProxy) (u' : List ℕ) → Gives2 r hs' u' (put_in_all m.numbered hs u) → Wrote r m.flow s l hs' u' (write_of f store lens payload opted hs u)
+    wrote t et m s l e r hs' u' p =
         record {
-          is-result = e₃.result ∙ numbered_is ∙ ap (λ (w : Written). w.writer.result) whole;
-          is-flow = ap (λ (x : Admitted). x.flow) e₂.result ∙ ap (λ (w : Written). w.writer.first) whole;
-          is_store = e₂.first ∙ ap (λ (w : Written). w.writer.second) whole;
-          is-lens = e₂.second ∙ ap (λ (w : Written). w.writer.third) whole;
-          is-proxies = e₃.first ∙ (λ j. proxies_of (map (put_one (numbered_is j)) (readers_in (e₁.first j) (e₁.second j)))) ∙ ap proxies_of put_is ∙ ap (λ (w : Written). proxies_of w.readers) whole;
-          is-unsent = e₃.second ∙ (λ j. laid_from (stride_of (length (e₁.first j)) (e₁.second j)) (map (put_one (numbered_is j)) (readers_in (e₁.first j) (e₁.second j))) (e₁.second j)) ∙ ap (λ (ks : List UnsentPart). laid_from (stride_of (length hs) u) ks u) put_is
-              ∙ ap (λ (w : Written). laid_from (stride_of (length hs) u) w.readers u) whole;
+          is-result = p.result ∙ numbered_is ∙ ap (λ (w : Written). w.writer.result) whole;
+          is-flow = ap (λ (x : Admitted). x.flow) e.result ∙ ap (λ (w : Written). w.writer.first) whole;
+          is_store = e.first ∙ ap (λ (w : Written). w.writer.second) whole;
+          is-lens = e.second ∙ ap (λ (w : Written). w.writer.third) whole;
+          is-proxies = p.first ∙ ap proxies_of put_is ∙ ap (λ (w : Written). proxies_of w.readers) whole;
+          is-unsent = p.second ∙ ap (λ (ks : List UnsentPart). laid_from (stride_of (length hs) u) ks u) put_is ∙ ap (λ (w : Written). laid_from (stride_of (length hs) u) w.readers u) whole;
         }
       where
         numbered_is : m.numbered ≡ (writer_of t f store lens payload opted).result
-        numbered_is = ap (λ (x : Admitted). x.numbered) e₂.result
+        numbered_is = ap (λ (x : Admitted). x.numbered) e.result
 
-        put_is : map (put_one (writer_of t f store lens payload opted).result) (readers_in hs u) ≡ told_all (writer_of t f store lens payload opted).result (readers_in hs u)
-        put_is = all_put t e₁.result
+        put_is : map (put_one m.numbered) (readers_in hs u) ≡ told_all (writer_of t f store lens payload opted).result (readers_in hs u)
+        put_is = ap (λ (n : Numbered). map (put_one n) (readers_in hs u)) numbered_is ∙ all_put t et
 
         whole : stepped t ≡ write_in f store lens payload opted hs u
-        whole = ap stepped e₁.result ∙ both_ways (places_coherent hs u)
+        whole = ap stepped et ∙ both_ways (places_coherent hs u)

@@ -7,7 +7,7 @@ ghost use Rattle.writer_write.specs.Turns.{writer_of};
 
 use crate::coherent::places_coherent;
 use crate::put::put_all;
-use numbers::{Answer, SequenceNumber};
+use numbers::{Answer, Refusal};
 use rtps_reader_proxy::ReaderProxy;
 use writer_send_buffer::{Admitted, Numbered, WriterSendBuffer};
 
@@ -23,12 +23,11 @@ pub fn admitted(
     ensures { Gives2 result store.new lens.new (handed (writer_of coherent flow store.old lens.old payload.now opted)) }
 {
     if !coherent {
-        let answer = Answer::coherence(false);
-        let number = SequenceNumber::from_rank(0);
-        return Admitted {
-            numbered: Numbered { answer, number },
-            flow,
+        let numbered = Numbered {
+            answer: Answer::refused(Refusal::Incoherent),
+            ..Numbered::default()
         };
+        return Admitted { numbered, flow };
     }
     flow.with_sample(store, lens, payload, opted)
 }
@@ -45,7 +44,7 @@ pub fn write(
 ) -> Numbered
     ensures { Wrote result flow.new store.new lens.new proxies.new unsent.new (write_of flow.old store.old lens.old payload.now opted proxies.old unsent.old) }
 {
-    let coherent = places_coherent(proxies, unsent, true);
+    let coherent = places_coherent(proxies, unsent);
     let m = admitted(*flow, store, lens, payload, opted, coherent);
     *flow = m.flow;
     put_all(proxies, unsent, m.numbered)

@@ -1,30 +1,15 @@
--- `places_coherent` meets its contract: place after place, `coherent_at`. Assumes nothing.
-use Rattle.std.proofs.Common.{ℕ, List, length, sym, ap, ◌∙◌, length-set}
-use Rattle.numbers.specs.Promise.{Left2}
-use Rattle.lent.proofs.Through.{resume_1, all_done}
-use Rattle.rtps_reader_proxy.specs.declared.proxy.ReaderProxy.{ReaderProxy}
-use Rattle.std.proofs.Common.{Bool}
-use Rattle.writer_write.specs.declared.coherent.SeenReader.{SeenReader}
-use Rattle.writer_write.specs.Turns.{coherent_at}
-use Rattle.writer_write.proofs.Walks.{coherent_all}
+-- `places_coherent` meets its contract. Assumes nothing.
+use Rattle.std.proofs.Common.{add-one}
+use Rattle.writer_write.proofs.Walks.{look-turn, looked-all}
 use Rattle.writer_write.proofs.coherent.places_coherent.Goals as goal
 
 pub loop-i-preserved : goal.loop-i-preserved
 loop-i-preserved c =
-    let l = c.loop-i in
-    let m = c.coherent_at-m in
-    let given = rw l.invariant.0 at m.ensures in (
-      length-set l.proxies l.i m.result.proxy ∙ l.invariant.0,
-      sym (resume_1 (λ (r : SeenReader). r.coherent) (λ (r : SeenReader). r.proxy) coherent_at l.i l.acc l.proxies l.unsent (length c.args.proxies.now) _ _ c.loop-i-test.true m.result m.new.unsent given (sym l.invariant.1)),
-    )
+    let hs = c.args.proxies.now in
+    let u = c.args.unsent.now in
+    rw add-one
+    (look-turn c.stride_of-stride.result hs u c.loop-i.i _ c.loop-i.coherent c.place_coherent-coherent.result _ c.own_of.result c.loop-i-test.true c.own_of.ensures
+    c.place_coherent-coherent.ensures c.loop-i.invariant)
 
 pub returns : goal.returns
-returns c =
-    let l = c.loop-i in
-    let done = all_done (λ (r : SeenReader). r.coherent) (λ (r : SeenReader). r.proxy) coherent_at l.i l.acc l.proxies l.unsent l.i (length c.args.proxies.now) c.loop-i-test.false in
-    let e = sym done ∙ l.invariant.1 ∙ coherent_all c.args.proxies.now c.args.unsent.now c.args.coherent in
-    record {
-      result = ap (λ (o : Left2 Bool (List ReaderProxy) (List ℕ)). o.result) e;
-      first = ap (λ (o : Left2 Bool (List ReaderProxy) (List ℕ)). o.first) e;
-      second = ap (λ (o : Left2 Bool (List ReaderProxy) (List ℕ)). o.second) e;
-    }
+returns c = looked-all c.args.proxies.now c.args.unsent.now c.loop-i.i c.stride_of-stride.result c.loop-i.coherent c.loop-i-test.false c.stride_of-stride.ensures c.loop-i.invariant

@@ -1,15 +1,9 @@
-use Rattle.std.proofs.Common.{◌≡◌, ◌-◌, length}
-use Rattle.lent.proofs.Through.{through, resumed}
-use Rattle.writer_write.specs.declared.put.ToldReader.{ToldReader}
-use Rattle.writer_write.specs.Turns.{put_at}
+use Rattle.std.proofs.Common.{◌≡◌}
+use Rattle.writer_write.proofs.Walks.{proxies_at, room_at}
 use Rattle.writer_write.proofs.put.put_all.Given as goal
 
--- the turns that are left, with those that are done, are all of them
+-- the places that are done, with what comes of those that are left, are what comes of all
 abbrev pub invariant-loop-i : goal.invariant-loop-i
 invariant-loop-i l =
-    (length l.proxies ≡ length l.initial.proxies)
-    × (resumed (λ (r : ToldReader). r.numbered) (λ (r : ToldReader). r.proxy) put_at l.i l.acc l.proxies l.unsent l.i (length l.initial.proxies)
-    ≡ through (λ (r : ToldReader). r.numbered) (λ (r : ToldReader). r.proxy) put_at l.initial.acc l.initial.proxies l.initial.unsent 0 (length l.initial.proxies))
-
-abbrev pub decreases-loop-i : goal.decreases-loop-i
-decreases-loop-i l = length l.initial.proxies - l.i
+    (proxies_at l.n l.stride l.i l.proxies l.unsent ≡ proxies_at l.n l.stride 0 l.initial.proxies l.initial.unsent)
+    × (room_at l.n l.stride l.i l.proxies l.unsent ≡ room_at l.n l.stride 0 l.initial.proxies l.initial.unsent)
