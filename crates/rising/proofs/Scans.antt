@@ -1,5 +1,5 @@
 -- The scans: what is left to read, from i on. Assumes nothing.
-use Rattle.std.proofs.Common.{Some, ◌≡◌, ℕ, zero, suc, ◌+◌, ◌-◌, ◌*◌, ◌%◌, ◌^◌, ◌<◌, ◌≤◌, min, Bool, true, false, ◌&&◌, ◌||◌, eqb, ltb, leb, ◌⊎◌, List, [], ◌∷◌, length, get_or, take, drop, sym, refl, ap, ◌∙◌, ap₂, inl, inr, arith, take_all, ltb-false, ltb-true, le-ltb, lt-ltb, eq-eqb, ne_eqb, eqb-true, le-leb, leb-false, leb-true}
+use Rattle.std.proofs.Common.{Some, ◌≡◌, ℕ, zero, suc, ◌+◌, ◌-◌, ◌*◌, ◌%◌, ◌^◌, ◌<◌, ◌≤◌, min, Bool, true, false, ◌&&◌, eqb, ltb, leb, ◌⊎◌, List, [], ◌∷◌, length, get_or, take, drop, sym, refl, ap, ◌∙◌, ap₂, inl, inr, arith, take_all, ltb-false, ltb-true, le-ltb, lt-ltb, eq-eqb, ne_eqb, eqb-true, le-leb, leb-false, leb-true}
 use lib.Bits.{bit_or, bit_and, or_add_and, or_lt, and_block, and_le_l, and_le_r}
 use borrow.Author.Tests.{eqb-false, lt-leb}
 use Rattle.std.specs.List.{fold, slice_get}
@@ -117,15 +117,15 @@ past p (suc k) (x ∷ xs) e h = rw (← (past x k xs (omega arith) h), and_no (l
 rises-past : (p : ℕ) (s : List ℕ) → 0 < length s → top_number < get_or s (length s - 1) 0 → false ≡ rises_above p s
 rises-past p s h k = past p (length s - 1) s (omega arith) k
 
-pub rises_off : (p : ℕ) (s : List ℕ) (x y : ℕ) → Some x ≡ slice_get s 0 → Some y ≡ slice_get s (length s - 1) → (leb x p || ltb top_number y) ≡ true → false ≡ rises_above p s
-rises_off p s x y f l h = go (leb x p) refl h
-  where
-    long : 0 < length s
-    long = slice_get_within s 0 x (sym f)
+module _ (p : ℕ) (s : List ℕ) (x : ℕ) (f : Some x ≡ slice_get s 0) where
+  some : 0 < length s
+  some = slice_get_within s 0 x (sym f)
 
-    go : (t : Bool) → leb x p ≡ t → (t || ltb top_number y) ≡ true → false ≡ rises_above p s
-    go true e h = rises_not p s long (omega (arith, leb-true x p e, get_or_from_slice_get s 0 x 0 (sym f)))
-    go false e h = rises-past p s long (omega (arith, ltb-true top_number y h, get_or_from_slice_get s (length s - 1) y 0 (sym l)))
+  pub rises_low : x ≤ p → false ≡ rises_above p s
+  rises_low h = rises_not p s some (omega (arith, get_or_from_slice_get s 0 x 0 (sym f)))
+
+  pub rises_high : (y : ℕ) → Some y ≡ slice_get s (length s - 1) → top_number < y → false ≡ rises_above p s
+  rises_high y l h = rises-past p s some (omega (arith, get_or_from_slice_get s (length s - 1) y 0 (sym l)))
 
 -- a difference that wraps
 pub wrapped : (a b : ℕ) → a < 2 ^ 64 → b < 2 ^ 64 → (((a + (18446744073709551616 - b)) % 18446744073709551616 + b) % 2 ^ 64 ≡ a) × ((a + (18446744073709551616 - b)) % 18446744073709551616 < 18446744073709551616)

@@ -16,7 +16,7 @@ pub fn rises(s: &[u64], above: u64) -> bool
     let (Some(first), Some(last)) = (s.first(), s.last()) else {
         return true;
     };
-    if (*first <= above) | (SequenceNumber::LAST < *last) {
+    if *first <= above || SequenceNumber::LAST < *last {
         return false;
     }
     let mut high = 0;
@@ -39,10 +39,7 @@ pub fn all_zero(s: &[u64]) -> bool
 pub fn run_coherent(s: &[u64], count: usize, above: u64) -> bool
     ensures { result ≡ run_coherent above count s.now }
 {
-    match s.split_at_checked(count) {
-        Some((held, unused)) => rises(held, above) && all_zero(unused),
-        None => false,
-    }
+    count <= s.len() && rises(&s[..count], above) && all_zero(&s[count..])
 }
 
 // Whether n is among the numbers. All are compared, with no early exit: this becomes vector code, where a slice's own `contains` takes four times as long.
@@ -89,7 +86,8 @@ pub fn drop_front(s: &mut [u64], k: usize)
     if k == 0 {
         return;
     }
-    let stay = s.len().saturating_sub(k);
+    let gone = k.min(s.len());
+    let stay = s.len() - gone;
     for i in 0..stay {
         s[i] = s[i + k];
     }

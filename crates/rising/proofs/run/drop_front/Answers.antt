@@ -10,7 +10,7 @@ loop-i-preserved c =
     let k = c.args.k in
     let i = c.loop-i.i in
     let e = dropped-length k s₀ in
-    let h : i < length s₀ - k = omega (arith, c.saturating_sub-stay.ensures) in
+    let h : i < length s₀ - k = omega (arith, c.min-gone.ensures) in
     ap (λ (x : List ℕ). set x i (get_or x (i + k) 0)) c.loop-i.invariant
     ∙ upto_more (dropped k s₀) s₀ e i _ (omega arith) (upto_kept (dropped k s₀) s₀ e i (i + k) (omega arith) (omega arith) ∙ sym (dropped_front k s₀ i (omega arith)))
 
@@ -18,7 +18,7 @@ pub returns : goal.returns
 returns c =
     let s₀ = c.args.s.now in
     let k = c.args.k in
-    let st = c.saturating_sub-stay in
+    let st = length s₀ - c.min-gone.result in
     let l = c.loop-i in
-    let e : l.i ≡ st.result = omega arith in
-    dropped-done k st.result s₀ l.s c.fill.new.self st.ensures l.auto.s (l.invariant ∙ ap (upto (dropped k s₀) s₀) e) (c.fill.ensures.after (λ y e. e))
+    let e : l.i ≡ st = omega arith in
+    dropped-done k st s₀ l.s c.fill.new.self (omega (arith, c.min-gone.ensures)) l.auto.s (l.invariant ∙ ap (upto (dropped k s₀) s₀) e) (c.fill.ensures.after (λ y e. e))

@@ -1,12 +1,16 @@
 -- `rises` meets its contract. Assumes nothing.
 use Rattle.std.proofs.Common.{◌-◌, ltb, get_or, arith, rules}
-use Rattle.rising.proofs.Scans.{rises_off, rises_more, wrapped}
+use Rattle.rising.proofs.Scans.{rises_low, rises_high, rises_more, wrapped}
 use Rattle.rising.proofs.run.rises.Goals as goal
+use Rattle.rising.proofs.run.rises.Goals.{then-first-above-via-then-first-above, then-first-above-via-else-first-above+then-last-gt-LAST}
 
 pub returns-then-first-above : goal.returns-then-first-above
 returns-then-first-above c =
     let ends = c.in-Some-Some in
-    rises_off c.args.above c.args.s.now ends.first.now ends.last.now (search rules) (search rules) c.if-first-above.true
+    elim c.then-first-above.branch [
+      | then-first-above-via-then-first-above w ↦ rises_low c.args.above c.args.s.now ends.first.now (search rules) w.if-first-above.true
+      | then-first-above-via-else-first-above+then-last-gt-LAST w ↦ rises_high c.args.above c.args.s.now ends.first.now (search rules) ends.last.now (search rules) w.if-last-gt-LAST.true
+    ]
 
 pub loop-i-preserved : goal.loop-i-preserved
 loop-i-preserved c =
