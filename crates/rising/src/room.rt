@@ -130,7 +130,7 @@ pub fn insert_newest(s: &mut [u64], count: usize, n: u64) -> usize
 }
 
 // The last of the `count` numbers. Where there is none, 0 stands there: unused room is zero.
-pub fn last_of(s: &[u64], count: usize) -> u64
+fn last_of(s: &[u64], count: usize) -> u64
     ensures { result ≡ get_or s.now (count - 1) 0 }
 {
     s.get(count.saturating_sub(1)).copied().unwrap_or(0)
