@@ -15,7 +15,7 @@ use Rattle.numbers.specs.Number.{rank_of}
 use Rattle.reader_list.specs.declared.heads.ReaderHead.{ReaderHead}
 use Rattle.reader_list.specs.Readers.{Head, meet, frontier, place_of_id, is_there, slot_coherent, slots_coherent}
 use Rattle.reader_list.specs.Slots.{head_view, readers, free_slot, id_unknown}
-use Rattle.reader_list.specs.Ahead.{place_in, others, front_joined}
+use Rattle.reader_list.specs.Ahead.{place_found, others, front_joined}
 
 pub length_readers : (hs : List ReaderHead) → length (readers hs) ≡ length hs
 length_readers [] = refl
@@ -67,7 +67,7 @@ place_len i (h ∷ hs) = go (eqb h.id i) (place_len i hs)
     go true e = refl
     go false e = omega (arith, e)
 
-pub place_is : (i : ℕ) (hs : List ReaderHead) → position (λ h. eqb h.id i) hs ≡ place_in i (readers hs)
+pub place_is : (i : ℕ) (hs : List ReaderHead) → position (λ h. eqb h.id i) hs ≡ place_found i (readers hs)
 place_is i hs =
     (λ k. cond (ltb (place_len i hs k) (sym (length_readers hs) k)) (Some (place_len i hs k)) None)
     ∙ ap (λ (b : Bool). cond b (Some (place_of_id i (readers hs))) None) (place-there i (readers hs))

@@ -14,8 +14,8 @@ use Rattle.reader_list.specs.Readers.{Head, meet, frontier, place_of_id, is_ther
 use Rattle.reader_list.specs.Slots.{readers, list_coherent, free_slot, frontier_at, list_rows, id_unknown, match_rows, depart_rows_of, front_of}
 
 -- the first place of an id, of id 0: of a free slot; or none
-abbrev pub place_in : ℕ → List Head → Option ℕ
-place_in i hs = cond (is_there i hs) (Some (place_of_id i hs)) None
+abbrev pub place_found : ℕ → List Head → Option ℕ
+place_found i hs = cond (is_there i hs) (Some (place_of_id i hs)) None
 
 -- the readers with another id
 abbrev pub others : ℕ → List Head → List Head
@@ -65,6 +65,6 @@ ack_slot hs a =
     (Ok (record { place = place_of_id a.id (readers hs); head = record { id = a.id; reliable = (get_or hs (place_of_id a.id (readers hs)) free_slot).reliable; acked = a.acked } }))
 
 -- the list with the slot stored, where the call isn't refused
-abbrev pub changed : List ReaderHead → Result Slot Answer → Left1 Answer (List ReaderHead)
-changed hs (Ok s) = record { result = done; first = set hs s.place s.head }
-changed hs (Err a) = record { result = a; first = hs }
+abbrev pub list_changed : List ReaderHead → Result Slot Answer → Left1 Answer (List ReaderHead)
+list_changed hs (Ok s) = record { result = done; first = set hs s.place s.head }
+list_changed hs (Err a) = record { result = a; first = hs }

@@ -2,7 +2,7 @@
 ghost use Rattle.std.specs.Prelude.{◌≡◌};
 ghost use Rattle.numbers.specs.Promise.{Gives1};
 ghost use Rattle.reader_list.specs.Slots.{front_of, found_of, match_of, depart_of, ack_of};
-ghost use Rattle.reader_list.specs.Ahead.{changed};
+ghost use Rattle.reader_list.specs.Ahead.{list_changed};
 
 use crate::changes::{Slot, acking, departing, find, matching, store};
 use crate::heads::{AckedFrontier, ReaderHead};
@@ -78,7 +78,7 @@ pub fn matched_reader_lookup(list: &[ReaderHead], id: u64) -> Found
 
 // The slot is stored, where the call isn't refused.
 fn change(list: &mut [ReaderHead], slot: Result<Slot, Answer>) -> Answer
-    ensures { Gives1 result list.new (changed list.old slot) }
+    ensures { Gives1 result list.new (list_changed list.old slot) }
 {
     match slot {
         Ok(slot) => {

@@ -2,7 +2,7 @@
 ghost use Rattle.std.specs.Prelude.{◌≡◌, ◌<◌, IfSome, length};
 ghost use Rattle.reader_list.specs.Readers.{slots_coherent, frontier};
 ghost use Rattle.reader_list.specs.Slots.{readers, list_coherent};
-ghost use Rattle.reader_list.specs.Ahead.{place_in, others, front_joined};
+ghost use Rattle.reader_list.specs.Ahead.{place_found, others, front_joined};
 
 use crate::heads::ReaderHead;
 use crate::ids::are_different;
@@ -25,7 +25,7 @@ fn are_clean(list: &[ReaderHead]) -> bool
 
 // The first place of an id; of id 0: of a free slot.
 pub(crate) fn place_of(list: &[ReaderHead], id: u64) -> Option<usize>
-    ensures is { result ≡ place_in id (readers list.now) }
+    ensures is { result ≡ place_found id (readers list.now) }
     ensures within { IfSome result (λ i. i < length list.now) }
 {
     list.iter().position(|h| h.id == id)
