@@ -1,12 +1,13 @@
 // The input as numbers: each line is the place where the next one begins, and then its numbers. All else in it is for people.
-use crate::line::{after, put, wide};
+ghost use Rattle.std.specs.Prelude.{◌<◌, IfSome};
+
 use std::io;
 use std::io::Read;
 
 // Reads until the room is full or the input ends.
 pub(crate) fn read_full<R: Read>(input: &mut R, room: &mut [u8]) -> io::Result<()> {
     let mut done = 0;
-    for _ in 0..u64::MAX {
+    while done < room.len() {
         let n = input.read(&mut room[done..])?;
         if n == 0 {
             break;
@@ -16,111 +17,112 @@ pub(crate) fn read_full<R: Read>(input: &mut R, room: &mut [u8]) -> io::Result<(
     Ok(())
 }
 
-// Where the line that is being read begins, and where its next number goes.
-#[derive(Clone, Copy)]
-struct Place {
+// The list that is made: where its last line begins, and where that line's next number goes.
+#[derive(Drop)]
+struct List<'a> {
+    all: &'a mut [u64],
     start: usize,
     next: usize,
 }
 
-// A number that is being read.
+// How a number is written.
+#[derive(Clone, Copy)]
+enum Form {
+    Plain,
+    Negative,
+    Hex,
+}
+
+// A number that is being read: its form, and what its digits say so far, if one has come.
 #[derive(Clone, Copy)]
 struct Token {
-    started: bool,
-    hex: bool,
-    negative: bool,
-    value: u64,
+    form: Form,
+    value: Option<u64>,
 }
 
-// The worth of a digit; 16 for a byte that is none.
-fn digit(b: u8, hex: bool) -> u64 {
-    if b < 48 {
-        return 16;
+impl List<'_> {
+    // One number more, if there is room.
+    fn push(&mut self, n: u64) {
+        if self.next < self.all.len() {
+            self.all[self.next] = n;
+            self.next += 1;
+        }
     }
-    if b <= 57 {
-        return wide(b - 48);
+
+    // The line ends, and the next one begins.
+    fn end_line(&mut self) {
+        if self.start < self.all.len() {
+            self.all[self.start] = self.next as u64;
+        }
+        self.start = self.next;
+        self.next = self.next.saturating_add(1);
     }
-    if b < 97 {
-        return 16;
-    }
-    if hex & (b <= 102) {
-        return wide(b - 87);
-    }
-    16
 }
 
-// The number with one digit more; one that has too many is left as it is.
-fn grown(value: u64, hex: bool, d: u64) -> u64 {
-    if 1152921504606846975 < value {
-        return value;
+impl Form {
+    // The worth of a digit; None for a byte that is none.
+    fn digit(self, b: u8) -> Option<u64>
+        ensures { IfSome result (λ d. d < 16) }
+    {
+        match (self, b) {
+            (_, b'0'..=b'9') => Some((b - b'0') as u64),
+            (Form::Hex, b'a'..=b'f') => Some((b - b'a') as u64 + 10),
+            _ => None,
+        }
     }
-    if 16 <= d {
-        return value;
+
+    // The number with one digit more; one that has too many is left as it is.
+    fn grown(self, value: u64, digit: u64) -> u64
+        requires { digit < 16 }
+    {
+        if 1 << 60 <= value {
+            return value;
+        }
+        match self {
+            Form::Hex => value * 16 + digit,
+            _ => value * 10 + digit,
+        }
     }
-    if hex {
-        return value * 16 + d;
-    }
-    value * 10 + d
 }
 
 impl Token {
-    // After one byte more, whose worth as a digit is d.
-    fn with(self, b: u8, d: u64) -> Token {
-        if 16 <= d {
-            return Token {
-                started: false,
-                hex: b == 35,
-                negative: b == 45,
-                value: 0,
-            };
-        }
-        Token {
-            started: true,
-            hex: self.hex,
-            negative: self.negative,
-            value: grown(self.value, self.hex, d),
-        }
-    }
-}
-
-// The numbers of the line with this one, if the byte after it has come. One below 0 is written as its two's complement.
-fn noted(all: &mut [u64], next: usize, token: Token, d: u64) -> usize {
-    if !token.started | (d < 16) {
-        return next;
-    }
-    if token.negative {
-        return put(all, next, 0u64.wrapping_sub(token.value));
-    }
-    put(all, next, token.value)
-}
-
-// A newline ends the line.
-fn ended(all: &mut [u64], start: usize, next: usize, b: u8) -> Place {
-    if b == 10 {
-        put(all, start, next as u64);
-        return Place {
-            start: next,
-            next: after(next, 1),
+    // A number that would begin after this byte.
+    fn after(b: u8) -> Token {
+        let form = match b {
+            b'-' => Form::Negative,
+            b'#' => Form::Hex,
+            _ => Form::Plain,
         };
+        Token { form, value: None }
     }
-    Place { start, next }
+
+    // The number read. One below 0 is its two's complement.
+    fn number(self) -> Option<u64> {
+        match self.form {
+            Form::Negative => self.value.map(|n| n.wrapping_neg()),
+            _ => self.value,
+        }
+    }
 }
 
 pub(crate) fn read_numbers(bytes: &[u8], all: &mut [u64]) {
-    let mut token = Token {
-        started: false,
-        hex: false,
-        negative: false,
-        value: 0,
+    let mut list = List {
+        all,
+        start: 0,
+        next: 1,
     };
-    let mut place = Place { start: 0, next: 1 };
-    let mut i = 0;
-    while i < bytes.len() {
-        let b = bytes[i];
-        let d = digit(b, token.hex);
-        let next = noted(all, place.next, token, d);
-        place = ended(all, place.start, next, b);
-        token = token.with(b, d);
-        i += 1;
+    let mut token = Token::after(b'\n');
+    for &b in bytes {
+        if let Some(digit) = token.form.digit(b) {
+            token.value = Some(token.form.grown(token.value.unwrap_or(0), digit));
+            continue;
+        }
+        if let Some(n) = token.number() {
+            list.push(n);
+        }
+        if b == b'\n' {
+            list.end_line();
+        }
+        token = Token::after(b);
     }
 }

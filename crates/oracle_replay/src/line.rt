@@ -1,101 +1,89 @@
-// The numbers of a line, by their places, and what is compared with them.
-//
-// What was compared is told by one place: that of the number that comes next, or DIFFERS, from which no place goes on.
+// The lines of the list, and the numbers of a line.
 use numbers::SequenceNumber;
 
-// Something was not as the crate's: no list has so many numbers.
-pub(crate) const DIFFERS: usize = 131072;
-
-pub(crate) fn wide(b: u8) -> u64 {
-    b as u64
+// The list, from a line on: at its place stands the place of the next line, and then come its numbers.
+#[derive(Drop)]
+pub(crate) struct Lines<'a> {
+    pub all: &'a [u64],
+    pub place: usize,
 }
 
-pub(crate) fn bit(b: bool) -> u64 {
-    if b { 1 } else { 0 }
+// Numbers that are read one after the other.
+#[derive(Drop)]
+pub(crate) struct Numbers<'a> {
+    pub rest: &'a [u64],
 }
 
-// The number at a place; past the end, 0.
-pub(crate) fn at(line: &[u64], i: usize) -> u64 {
-    if i < line.len() {
-        return line[i];
+impl<'a> Lines<'a> {
+    // The numbers from here on, whatever their line; the next line is then the one after this.
+    pub(crate) fn head(&mut self) -> Numbers<'a> {
+        let start = self.place.saturating_add(1);
+        self.place = self.all.get(self.place).copied().unwrap_or(0) as usize;
+        Numbers {
+            rest: self.all.get(start..).unwrap_or(&[]),
+        }
     }
-    0
-}
 
-// One number more, if there is room.
-pub(crate) fn put(line: &mut [u64], n: usize, x: u64) -> usize {
-    if n < line.len() {
-        line[n] = x;
-        return n + 1;
+    // The numbers of this line alone, or None where the list ends in it.
+    pub(crate) fn call(&mut self) -> Option<Numbers<'a>> {
+        let start = self.place.saturating_add(1);
+        self.place = self.all.get(self.place).copied().unwrap_or(0) as usize;
+        let rest = self.all.get(start..self.place)?;
+        Some(Numbers { rest })
     }
-    n
 }
 
-// A place so much further on.
-pub(crate) fn after(i: usize, more: usize) -> usize {
-    if DIFFERS <= i {
-        return i;
+impl<'a> Numbers<'a> {
+    // The next number. A line that has none left is not as the crate's.
+    pub(crate) fn next(&mut self) -> Option<u64> {
+        let (first, rest) = self.rest.split_first()?;
+        self.rest = rest;
+        Some(*first)
     }
-    if DIFFERS <= more {
-        return more;
+
+    // The next number; where none is left, 0.
+    pub(crate) fn next_or_0(&mut self) -> u64 {
+        self.next().unwrap_or(0)
     }
-    i + more
-}
 
-// The numbers from a place on.
-pub(crate) fn rest(line: &[u64], i: usize) -> &[u64] {
-    if i <= line.len() {
-        return &line[i..];
+    // The next numbers, so many.
+    pub(crate) fn several(&mut self, count: usize) -> Option<&'a [u64]> {
+        let (front, rest) = self.rest.split_at_checked(count)?;
+        self.rest = rest;
+        Some(front)
     }
-    let none = 0;
-    &line[none..none]
-}
 
-// How many calls from the first on are as the crate's, once call i is compared.
-pub(crate) fn counted(same: u64, i: u64, all: bool) -> u64 {
-    if all & (same == i) {
-        return same.wrapping_add(1);
+    // A signed number, from its two's complement.
+    pub(crate) fn number(&mut self) -> Option<SequenceNumber> {
+        Some(SequenceNumber(self.next()?.cast_signed()))
     }
-    same
-}
 
-// A signed number, from its two's complement.
-pub(crate) fn number(line: &[u64], i: usize) -> SequenceNumber {
-    let n = at(line, i);
-    if n < 9223372036854775808 {
-        return SequenceNumber::from_rank(n);
+    // The lower half of a number.
+    pub(crate) fn half(&mut self) -> Option<u32> {
+        Some((self.next()? % (1 << 32)) as u32)
     }
-    let m = (18446744073709551615 - n) as i64;
-    SequenceNumber(!m)
-}
 
-// The lower half of a number.
-pub(crate) fn half(line: &[u64], i: usize) -> u32 {
-    (at(line, i) % 4294967296) as u32
-}
-
-// The eight words of a set.
-pub(crate) fn words_of(line: &[u64]) -> [u32; 8] {
-    let a = half(line, 0);
-    let b = half(line, 1);
-    let c = half(line, 2);
-    let d = half(line, 3);
-    let e = half(line, 4);
-    let f = half(line, 5);
-    let g = half(line, 6);
-    let h = half(line, 7);
-    [a, b, c, d, e, f, g, h]
-}
-
-// On from a place if what was compared there is the same.
-pub(crate) fn on(i: usize, same: bool) -> usize {
-    if same { i } else { DIFFERS }
-}
-
-// The next number of the line is n.
-pub(crate) fn expect(line: &[u64], i: usize, n: u64) -> usize {
-    if at(line, i) == n {
-        return after(i, 1);
+    // The eight words of a set.
+    pub(crate) fn words(&mut self) -> Option<[u32; 8]> {
+        let mut words = [0; 8];
+        for word in words.iter_mut() {
+            *word = self.half()?;
+        }
+        Some(words)
     }
-    DIFFERS
+
+    // The next number is n, or the line is not as the crate's.
+    pub(crate) fn expect(&mut self, n: u64) -> Option<()> {
+        is_so(self.next()? == n)
+    }
+
+    // The line has no more.
+    pub(crate) fn ends(&self) -> Option<()> {
+        is_so(self.rest.is_empty())
+    }
+}
+
+// What was compared is as the crate's, or the call is not.
+pub(crate) fn is_so(same: bool) -> Option<()> {
+    same.then_some(())
 }

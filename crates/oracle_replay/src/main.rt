@@ -8,6 +8,7 @@
 
 ghost use Rattle.std.specs.Prelude.{◌≡◌, length};
 
+mod block;
 mod input;
 mod line;
 mod reader;
@@ -15,49 +16,49 @@ mod reader_shown;
 mod writer;
 mod writer_shown;
 
+use block::replay_calls;
 use input::{read_full, read_numbers};
-use line::{after, at, rest};
-use reader::Replayed;
+use line::Lines;
+use reader::Reader;
 use std::io;
+use writer::Writer;
 
 // All the calls of a block, or the first that differs.
 fn tell(rt: &impl Print, same: u64, calls: u64) -> io::Result<()> {
     if same == calls {
         return println!(rt; "{calls} calls, as the crate");
     }
-    let first = same.wrapping_add(1);
+    let first = same.saturating_add(1);
     println!(rt; "call {first} is not as the crate")
 }
 
-// A reader or a writer, with its calls.
-fn replay_block(rt: &impl Print, all: &[u64], place: usize) -> io::Result<Replayed> {
-    let head = rest(all, after(place, 1));
-    let first = at(all, place) as usize;
-    let done = if at(head, 0) == 0 {
+// A reader or a writer, with its calls: how many are as the crate's.
+fn replay_block(rt: &impl Print, lines: &mut Lines) -> io::Result<u64> {
+    let mut head = lines.head();
+    let is_reader = head.next_or_0() == 0;
+    let id = head.next_or_0();
+    let calls = head.next_or_0();
+    let same = if is_reader {
         print!(rt; "reader ")?;
-        reader::replay(all, head, first)
+        replay_calls(Reader::told(&mut head), lines, calls)
     } else {
         print!(rt; "writer ")?;
-        writer::replay(all, head, first)
+        replay_calls(Writer::told(&mut head), lines, calls)
     };
-    let id = at(head, 1);
     print!(rt; "{id}: ")?;
-    tell(rt, done.same, at(head, 2))?;
-    Ok(done)
+    tell(rt, same, calls)?;
+    Ok(same)
 }
 
 fn run(rt: &impl Print, all: &[u64]) -> io::Result<()> {
-    let blocks = at(all, 1);
-    let mut place = at(all, 0) as usize;
+    let mut lines = Lines { all, place: 0 };
+    let mut head = lines.head();
+    let blocks = head.next_or_0();
+    let calls = head.next_or_0();
     let mut same: u64 = 0;
-    let mut i = 0;
-    while i < blocks {
-        let done = replay_block(rt, all, place)?;
-        place = done.next;
-        same = same.wrapping_add(done.same);
-        i += 1;
+    for _ in 0..blocks {
+        same = same.wrapping_add(replay_block(rt, &mut lines)?);
     }
-    let calls = at(all, 2);
     println!(rt; "{same} of {calls} calls are as the crate's")
 }
 

@@ -1,195 +1,175 @@
 // The calls on a reader: each is made, and what the record then shows is compared with what the crate showed.
-use crate::line::{DIFFERS, after, at, counted, half, number, on, rest, words_of};
-use crate::reader_shown::shown;
+ghost use Rattle.std.specs.Prelude.{◌≤◌};
+
+use crate::block::Replayed;
+use crate::line::{Numbers, is_so};
 use number_sets::{FragmentNumberSet, SequenceNumberSet};
-use numbers::{FragmentNumber, Refusal};
+use numbers::{Answer, FragmentNumber, Refusal, SequenceNumber};
 use rtps_reader_proxy::ReaderProxy;
 use rtps_reader_proxy::proxy::Changed;
 
-// A call that was made: the head after it, and where the line tells what the crate showed.
+// A reader with its rooms. The unsent room is as long as the cap.
+#[derive(Drop)]
+pub(crate) struct Reader {
+    pub proxy: ReaderProxy,
+    pub cap: usize,
+    pub unsent: [u64; 1024],
+    pub gaps: [u64; 256],
+    pub samples: [u64; 16],
+    pub words: [u64; 1024],
+}
+
+// The calls that the crate has.
 #[derive(Clone, Copy)]
-struct Made {
-    head: ReaderProxy,
-    at: usize,
+enum Call {
+    AckNack {
+        set: SequenceNumberSet,
+        last: SequenceNumber,
+    },
+    NewChange(SequenceNumber),
+    ChangeSent(SequenceNumber),
+    RemoveBefore(SequenceNumber),
+    Gap {
+        n: SequenceNumber,
+        last: SequenceNumber,
+    },
+    GapUpTo {
+        n: SequenceNumber,
+        last: SequenceNumber,
+    },
+    FragsRequested {
+        n: SequenceNumber,
+        set: FragmentNumberSet,
+    },
+    FragSent {
+        n: SequenceNumber,
+        fragment: FragmentNumber,
+    },
 }
 
-// How many calls of a block, from the first on, were as the crate's, and where the next block begins.
-#[derive(Clone, Copy)]
-pub struct Replayed {
-    pub same: u64,
-    pub next: usize,
-}
+impl Call {
+    // The call that a line tells of; None where it is no reader's.
+    fn told(line: &mut Numbers) -> Option<Call> {
+        match line.next()? {
+            1 => Call::ack_nack(line),
+            2 => Some(Call::NewChange(line.number()?)),
+            3 => Some(Call::ChangeSent(line.number()?)),
+            4 => Some(Call::RemoveBefore(line.number()?)),
+            5 => Some(Call::Gap {
+                n: line.number()?,
+                last: line.number()?,
+            }),
+            6 => Some(Call::GapUpTo {
+                n: line.number()?,
+                last: line.number()?,
+            }),
+            7 => Call::frags_requested(line),
+            8 => Some(Call::FragSent {
+                n: line.number()?,
+                fragment: FragmentNumber(line.half()?),
+            }),
+            _ => None,
+        }
+    }
 
-// Where the line of a call tells what the crate showed.
-fn shown_from(op: u64) -> usize {
-    match op {
-        2 => 2,
-        3 => 2,
-        4 => 2,
-        5 => 3,
-        6 => 3,
-        7 => 12,
-        8 => 3,
-        _ => DIFFERS,
+    fn ack_nack(line: &mut Numbers) -> Option<Call> {
+        let set = SequenceNumberSet {
+            base: line.number()?,
+            count: line.half()?,
+            words: line.words()?,
+        };
+        let last = line.number()?;
+        Some(Call::AckNack { set, last })
+    }
+
+    fn frags_requested(line: &mut Numbers) -> Option<Call> {
+        let n = line.number()?;
+        let set = FragmentNumberSet {
+            base: FragmentNumber(line.half()?),
+            count: line.half()?,
+            words: line.words()?,
+        };
+        Some(Call::FragsRequested { n, set })
     }
 }
 
-// The crate's functions give no answer here. Inside the compared range the library's is 0, but for an ACKNACK above last + 1.
-fn done(line: &[u64], r: Changed) -> Made {
-    let answer = r.answer;
-    let head = r.proxy;
-    Made {
-        head,
-        at: on(shown_from(at(line, 0)), answer.is_done()),
+impl Reader {
+    // The reader that a block's first line tells of; None where its cap is more than the room.
+    pub(crate) fn told(head: &mut Numbers) -> Option<Reader> {
+        let cap = head.next_or_0() as usize;
+        is_so(cap <= 1024)?;
+        Some(Reader {
+            proxy: ReaderProxy::new(cap).proxy,
+            cap,
+            unsent: [0; 1024],
+            gaps: [0; 256],
+            samples: [0; 16],
+            words: [0; 1024],
+        })
+    }
+
+    // The length of the unsent room: the cap, which is no more than there is.
+    pub(crate) fn room(&self) -> usize
+        ensures { result ≤ 1024 }
+    {
+        self.cap.min(1024)
+    }
+
+    // An ACKNACK, which the crate ignores where its base is above last + 1.
+    fn ack(&mut self, set: SequenceNumberSet, last: SequenceNumber) -> Option<()> {
+        let ahead = last.rank() + 1 < set.base.rank();
+        let room = self.room();
+        // Two rooms behind `self` can't be lent at once.
+        let mut gaps = self.gaps;
+        let r = self
+            .proxy
+            .handle_ack_nack(&mut self.unsent[..room], &mut gaps, set, last);
+        self.gaps = gaps;
+        self.proxy = r.proxy;
+        is_so(r.answer == Answer::done().unless(ahead, Refusal::Ahead))?;
+        is_so(r.left_out == 0)
+    }
+
+    // Any other call. The crate's functions give no answer here; inside the compared range the library's is 0.
+    fn changed(&mut self, call: Call) -> Option<Changed> {
+        let proxy = self.proxy;
+        let room = self.room();
+        let mut samples = self.samples;
+        let r = match call {
+            Call::AckNack { .. } => return None,
+            Call::NewChange(n) => proxy.notify_new_cache_change(&mut self.unsent[..room], n),
+            Call::ChangeSent(n) => proxy.mark_change_sent(&mut self.unsent[..room], n),
+            Call::RemoveBefore(n) => {
+                proxy.remove_from_unsent_set_all_before(&mut self.unsent[..room], n)
+            }
+            Call::Gap { n, last } => proxy.insert_pending_gap(&mut self.gaps, n, last),
+            Call::GapUpTo { n, last } => proxy.set_pending_gap_up_to(&mut self.gaps, n, last),
+            Call::FragsRequested { n, set } => {
+                proxy.mark_frags_requested(&mut samples, &mut self.words, n, set)
+            }
+            Call::FragSent { n, fragment } => {
+                proxy.mark_frag_sent(&mut samples, &mut self.words, n, fragment)
+            }
+        };
+        self.samples = samples;
+        Some(r)
+    }
+
+    fn make(&mut self, call: Call) -> Option<()> {
+        if let Call::AckNack { set, last } = call {
+            return self.ack(set, last);
+        }
+        let r = self.changed(call)?;
+        self.proxy = r.proxy;
+        is_so(r.answer.is_done())
     }
 }
 
-fn numbers_asked(line: &[u64]) -> SequenceNumberSet {
-    let base = number(line, 1);
-    let count = half(line, 2);
-    let words = words_of(rest(line, 3));
-    SequenceNumberSet { base, count, words }
-}
-
-fn fragments_asked(line: &[u64]) -> FragmentNumberSet {
-    let base = FragmentNumber(half(line, 2));
-    let count = half(line, 3);
-    let words = words_of(rest(line, 4));
-    FragmentNumberSet { base, count, words }
-}
-
-// What an ACKNACK has to be answered.
-fn ack_answer(line: &[u64]) -> u32 {
-    if number(line, 11).rank() + 1 < number(line, 1).rank() {
-        return Refusal::Ahead as u32;
+impl Replayed for Reader {
+    fn replay(&mut self, line: &mut Numbers) -> Option<()> {
+        let call = Call::told(line)?;
+        self.make(call)?;
+        self.is_shown(line)?;
+        line.ends()
     }
-    0
-}
-
-fn ack(line: &[u64], old: ReaderProxy, unsent: &mut [u64], gaps: &mut [u64]) -> Made {
-    let r = old.handle_ack_nack(unsent, gaps, numbers_asked(line), number(line, 11));
-    let answer = r.answer;
-    let head = r.proxy;
-    let same = (answer.number == ack_answer(line)) & (r.left_out == 0);
-    Made {
-        head,
-        at: on(12, same),
-    }
-}
-
-fn call_unsent(line: &[u64], head: ReaderProxy, unsent: &mut [u64]) -> Changed {
-    let n = number(line, 1);
-    match at(line, 0) {
-        2 => head.notify_new_cache_change(unsent, n),
-        3 => head.mark_change_sent(unsent, n),
-        _ => head.remove_from_unsent_set_all_before(unsent, n),
-    }
-}
-
-fn call_gaps(line: &[u64], head: ReaderProxy, gaps: &mut [u64]) -> Changed {
-    let n = number(line, 1);
-    let last = number(line, 2);
-    if at(line, 0) == 5 {
-        return head.insert_pending_gap(gaps, n, last);
-    }
-    head.set_pending_gap_up_to(gaps, n, last)
-}
-
-fn call_fragments(
-    line: &[u64],
-    head: ReaderProxy,
-    samples: &mut [u64],
-    words: &mut [u64],
-) -> Changed {
-    let n = number(line, 1);
-    if at(line, 0) == 7 {
-        return head.mark_frags_requested(samples, words, n, fragments_asked(line));
-    }
-    head.mark_frag_sent(samples, words, n, FragmentNumber(half(line, 2)))
-}
-
-fn call(
-    line: &[u64],
-    head: ReaderProxy,
-    unsent: &mut [u64],
-    gaps: &mut [u64],
-    samples: &mut [u64],
-    words: &mut [u64],
-) -> Made {
-    let op = at(line, 0);
-    if op == 1 {
-        return ack(line, head, unsent, gaps);
-    }
-    if op < 5 {
-        return done(line, call_unsent(line, head, unsent));
-    }
-    if op < 7 {
-        return done(line, call_gaps(line, head, gaps));
-    }
-    done(line, call_fragments(line, head, samples, words))
-}
-
-// The call of one line, and what the record shows after it.
-fn replay_line(
-    line: &[u64],
-    old: ReaderProxy,
-    unsent: &mut [u64],
-    gaps: &mut [u64],
-    samples: &mut [u64],
-    words: &mut [u64],
-) -> Made {
-    let made = call(line, old, unsent, gaps, samples, words);
-    let head = made.head;
-    let at = shown(line, head, unsent, gaps, samples, words, made.at);
-    Made { head, at }
-}
-
-// The calls up to the first that differs are counted. The unsent room is as long as the cap.
-fn replay_lines(
-    all: &[u64],
-    first: usize,
-    calls: u64,
-    cap: usize,
-    unsent: &mut [u64],
-    gaps: &mut [u64],
-    samples: &mut [u64],
-    words: &mut [u64],
-) -> Replayed {
-    let mut head = ReaderProxy::new(cap).proxy;
-    let mut next = first;
-    let mut same = 0;
-    let mut i = 0;
-    if unsent.len() < cap {
-        return Replayed { same, next };
-    }
-    while i < calls {
-        let start = after(next, 1);
-        next = at(all, next) as usize;
-        let line = rest(all, start);
-        let made = replay_line(line, head, &mut unsent[..cap], gaps, samples, words);
-        head = made.head;
-        same = counted(same, i, after(start, made.at) == next);
-        i += 1;
-    }
-    Replayed { same, next }
-}
-
-// The reader that a block's first line tells of, and its calls.
-pub(crate) fn replay(all: &[u64], head: &[u64], first: usize) -> Replayed {
-    let calls = at(head, 2);
-    let cap = at(head, 3) as usize;
-    let mut unsent = [0u64; 1024];
-    let mut gaps = [0u64; 256];
-    let mut samples = [0u64; 16];
-    let mut words = [0u64; 1024];
-    replay_lines(
-        all,
-        first,
-        calls,
-        cap,
-        &mut unsent,
-        &mut gaps,
-        &mut samples,
-        &mut words,
-    )
 }
