@@ -2,7 +2,7 @@
 use Prim.Native.Nat.{ℕ, zero, suc, ◌+◌, ◌-◌, ◌*◌, ◌/◌, ◌%◌, ◌<◌, ◌≤◌}
 use mathlib.Core.Path.{◌≡◌, refl, sym, ap, ap₂, ◌∙◌}
 use mathlib.Core.Bool.{Bool, ◌&&◌}
-use mathlib.Core.List.{List, [], ◌∷◌, ◌++◌}
+use mathlib.Core.List.{List}
 use native.Mathlib.Nat.{mod-eq_of_lt, mod-lt, mod-add-div', add-mul-mod_self_right, zero-add, add-zero, suc-add, add-suc, add-mul, one-mul}
 use native.Mathlib.Omega.{arith}
 use lib.Dec.{leb}
@@ -13,10 +13,7 @@ use lib.Seq.{take_all}
 use Rattle.sets.proofs.Bools.{and_assoc}
 use Rattle.sets.proofs.Loops.{here}
 use Rattle.writer_send_buffer.specs.Samples.{lengths_fit, all_at_most}
-
-at_most_append : (m : ℕ) (s t : List ℕ) → all_at_most m (s ++ t) ≡ (all_at_most m s && all_at_most m t)
-at_most_append m [] t = refl
-at_most_append m (x ∷ s) t = ap (λ (b : Bool). leb x m && b) (at_most_append m s t) ∙ sym (and_assoc (leb x m) (all_at_most m s) (all_at_most m t))
+use Rattle.writer_send_buffer.proofs.AtMost.{at_most_append}
 
 -- a run of c samples and the d after them
 fit_split : (l : List ℕ) (s b m c d : ℕ) → lengths_fit l s b m (c + d) ≡ (lengths_fit l s b m c && lengths_fit l s b (m + c) d)
