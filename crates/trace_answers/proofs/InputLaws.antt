@@ -13,16 +13,6 @@ use Rattle.trace_answers.specs.declared.input.Answering.{Answering}
 use Rattle.trace_answers.specs.Shown.{follow_held, shown_text}
 use Rattle.trace_answers.specs.Input.{Gives5, Standing, next_line, held_now, with_cut, shown_by, answered_by, cut_by, answer_line}
 
--- the answer is put under the next number
-pub shown_as : (c : Cut) (f : Followed) (r : Answering) (out : List ℕ) (n k : ℕ) (u : List ℕ) → n ≡ next_line r.lines → Gives1 k u (put_of r.filled (shown_text n f) out)
-    → Gives1 (record { followed = f; cut = c; lines = n; filled = k }) u (shown_by c f r out)
-shown_as c f r out n k u e g =
-    record {
-      result = ap (λ (m : ℕ). record { followed = f; cut = c; lines = n; filled = m }) g.result
-          ∙ ap (λ (m : ℕ). record { followed = f; cut = c; lines = m; filled = (put_of r.filled (shown_text m f) out).result }) e;
-      first = g.first ∙ ap (λ (m : ℕ). (put_of r.filled (shown_text m f) out).first) e;
-    }
-
 -- a promise of one thing lent is one whole outcome
 whole : (c : Cut) (u : List ℕ) (o : Left1 Cut (List ℕ)) → Gives1 c u o → record { result = c; first = u } ≡ o
 whole c u o g = ap (λ (x : Cut). record { result = x; first = u }) g.result ∙ ap (λ (y : List ℕ). record { result = o.result; first = y }) g.first
@@ -37,13 +27,6 @@ module _ (r : Answering) (piece line out store large small : List ℕ) (c : Cut)
 
   abbrev when_open : Standing
   when_open = record { result = with_cut c r; first = u; second = out; third = store; fourth = large; fifth = small }
-
-  -- the piece has no end of the line
-  pub line_open : (s : Answering) → c.ended ≡ false → s ≡ with_cut c r → Gives5 s u out store large small (answer_line r piece line out store large small)
-  line_open s b p =
-      subst (λ (x : Left1 Cut (List ℕ)). Gives5 s u out store large small (cut_by x r out store large small)) cut_is
-      (subst (λ (t : Bool). Gives5 s u out store large small (cond t when_ended when_open)) (sym b)
-      (record { result = p; first = refl; second = refl; third = refl; fourth = refl; fifth = refl }))
 
   -- it has
   pub line_ended_lem : (f : Followed) (x y z : List ℕ) (s : Answering) (v : List ℕ) → c.ended ≡ true → Gives3 f x y z (follow_held c.held u r.followed.trace store large small)

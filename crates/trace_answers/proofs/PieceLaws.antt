@@ -24,9 +24,6 @@ pub record Going (piece : List ℕ) (o e : Standing) : Type 0 where
   pub enough : length piece ≤ o.result.cut.at + left
   pub same : answer_lines left piece o ≡ e
 
-pub going_first : (piece : List ℕ) (o : Standing) → Going piece o (answer_lines (length piece) piece o)
-going_first piece o = record { left = length piece; enough = omega arith; same = refl }
-
 -- a promise is one whole outcome
 pub all_of : {r : Answering} {u v w x y : List ℕ} {o : Standing} → Gives5 r u v w x y o → record { result = r; first = u; second = v; third = w; fourth = x; fifth = y } ≡ o
 all_of {r} {u} {v} {w} {x} {y} {o} g =

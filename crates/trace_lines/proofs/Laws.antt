@@ -50,9 +50,6 @@ module _ (s : List ℕ) (i : ℕ) (v : ℕ) where
       let q : suc k - 1 ≡ k = omega arith in
       rw (here s i h, d, q)
 
-  pub digits_long : (k : ℕ) → i < length s → is_digit (get_or s i 0) ≡ true → k ≡ 0 → digits_read k v (drop i s) ≡ nothing
-  digits_long k h d n = rw (n, here s i h, d)
-
   pub digits_other : (k : ℕ) → i < length s → is_digit (get_or s i 0) ≡ false → digits_read k v (drop i s) ≡ up_to63 v (drop i s)
   digits_other zero h d = rw (here s i h, d)
   digits_other (suc k) h d = rw (here s i h, d)

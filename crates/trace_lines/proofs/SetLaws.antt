@@ -1,16 +1,14 @@
 -- Laws of sets in a line, in the shapes that the loop asks for. Assumes nothing.
 use Prim.Native.Nat.{ℕ, suc, ◌+◌, ◌-◌, ◌<◌, ◌≤◌}
 use mathlib.Core.Path.{◌≡◌, refl, sym, ap, ◌∙◌}
-use mathlib.Core.Bool.{Bool, true, false, cond}
 use mathlib.Core.List.{List, [], ◌∷◌, ◌++◌, append_assoc, append-nil}
 use native.Mathlib.Numerals.{add-one}
 use native.Mathlib.Omega.{arith}
-use lib.Dec.{leb}
 use lib.ListN.{length, take, drop, get_or, set, length-set}
 use lib.Seq.{take-suc-set, length-take-le, take_all}
-use borrow.Author.Tests.{eq-eqb, ne_eqb, le-leb, lt-leb}
+use borrow.Author.Tests.{eq-eqb, ne_eqb, le-leb}
 use Rattle.std.specs.Prelude.{Some, None}
-use Rattle.trace_lines.specs.Words.{rest, nothing, number_in}
+use Rattle.trace_lines.specs.Words.{rest, number_in}
 use Rattle.trace_lines.specs.Sets.{Members, these, none, also, after_number, listed_in, Listing}
 
 -- the numbers p, and then ms
@@ -18,29 +16,14 @@ abbrev pub prefixed : List ℕ → Members → Members
 prefixed p (these l) = these (p ++ l)
 prefixed p none = none
 
-pub prefixed_none : (ms : Members) → prefixed [] ms ≡ ms
-prefixed_none (these l) = refl
-prefixed_none none = refl
-
 pub prefixed_more : (l : List ℕ) (n v : ℕ) (ms : Members) → n < length l → prefixed (take n l) (also v ms) ≡ prefixed (take (n + 1) (set l n v)) ms
 prefixed_more l n v (these x) h = rw (add-one, take-suc-set l n v h, append_assoc)
 prefixed_more l n v none h = refl
 
-same : (t : Bool) → cond t none none ≡ none
-same true = refl
-same false = refl
-
 -- one number of the list
-module _ (s : List ℕ) (m k : ℕ) where
-  pub list-bad : nothing ≡ number_in s → listed_in (suc k) m s ≡ none
-  list-bad e = rw (← e) (same (leb m 0))
-
-  module _ (v : ℕ) (after : List ℕ) (e : record { value = v; after = rest after } ≡ number_in s) where
-    pub list-low : v < m → listed_in (suc k) m s ≡ none
-    list-low h = rw (← e, lt-leb m v h)
-
-    pub list-is : m ≤ v → listed_in (suc k) m s ≡ after_number v (rest after) (listed_in k (v + 1))
-    list-is h = rw (← e, le-leb m v h)
+pub list-is : (s : List ℕ) (m k v : ℕ) (after : List ℕ) → record { value = v; after = rest after } ≡ number_in s → m ≤ v
+    → listed_in (suc k) m s ≡ after_number v (rest after) (listed_in k (v + 1))
+list-is s m k v after e h = rw (← e, le-leb m v h)
 
 -- what follows it: nothing, a comma, or something else
 module _ (v : ℕ) (more : List ℕ → Members) where

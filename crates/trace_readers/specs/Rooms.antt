@@ -1,5 +1,5 @@
 -- The lent rooms, and the part of each that is one reader's. Assumes nothing.
-use Rattle.std.specs.Prelude.{ℕ, ◌+◌, ◌*◌, Bool, cond, List, ◌++◌, eqb, length, take, drop}
+use Rattle.std.specs.Prelude.{ℕ, ◌+◌, ◌*◌, Bool, List, ◌++◌, eqb, length, take, drop}
 use Rattle.numbers.specs.Capacities.{most_unsent, most_gaps, most_frag_samples, sample_words, most_slots}
 
 -- n numbers of a room, from a on; and the room with others in their place
@@ -17,21 +17,22 @@ reader_words = most_frag_samples * sample_words
 abbrev pub large_fits : List ℕ → Bool
 large_fits large = eqb (length large) (most_slots + 2 * most_unsent + 2 * reader_words)
 
-abbrev pub unsent_at : Bool → ℕ
-unsent_at first = cond first most_slots (most_slots + most_unsent)
+-- where the parts of reader i start
+abbrev pub unsent_at : ℕ → ℕ
+unsent_at i = most_slots + i * most_unsent
 
-abbrev pub words_at : Bool → ℕ
-words_at first = cond first (most_slots + 2 * most_unsent) (most_slots + 2 * most_unsent + reader_words)
+abbrev pub words_at : ℕ → ℕ
+words_at i = most_slots + 2 * most_unsent + i * reader_words
 
 -- the small room: the gap members of each, and the samples with requested fragments of each
 abbrev pub small_fits : List ℕ → Bool
 small_fits small = eqb (length small) (2 * most_gaps + 2 * most_frag_samples)
 
-abbrev pub gaps_at : Bool → ℕ
-gaps_at first = cond first 0 most_gaps
+abbrev pub gaps_at : ℕ → ℕ
+gaps_at i = i * most_gaps
 
-abbrev pub samples_at : Bool → ℕ
-samples_at first = cond first (2 * most_gaps) (2 * most_gaps + most_frag_samples)
+abbrev pub samples_at : ℕ → ℕ
+samples_at i = 2 * most_gaps + i * most_frag_samples
 
 -- the store: as many slots as a writer can have, "16-byte slots"
 abbrev pub store_fits : List ℕ → Bool

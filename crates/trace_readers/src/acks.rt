@@ -1,10 +1,10 @@
 // The lines of one reader: what it acknowledges and asks for, and what was sent to it.
-ghost use Rattle.std.specs.Prelude.{◌≡◌, length};
+ghost use Rattle.std.specs.Prelude.{◌≡◌, ◌<◌, length};
 ghost use Rattle.numbers.specs.Promise.{Gives2};
 ghost use Rattle.trace_readers.specs.Requests.{asked_for, ack_followed, ack_line};
 
 use crate::state::{Followed, Trace};
-use crate::{gaps_at, is_first, unsent_at};
+use crate::{gaps_at, reader_of, unsent_at};
 use number_sets::SequenceNumberSet;
 use numbers::SequenceNumber;
 use reader_list::calls::matched_reader_lookup;
@@ -17,48 +17,49 @@ fn asked(base: u64, numbers: &[u64]) -> SequenceNumberSet
 {
     let from = SequenceNumber::from_rank(base);
     let made = SequenceNumberSet::of_numbers(from, numbers);
-    let answer = made.answer;
-    if answer.number != 0 {
-        return SequenceNumberSet {
-            base: from,
-            count: 257,
-            words: [0, 0, 0, 0, 0, 0, 0, 0],
-        };
+    if made.answer.number == 0 {
+        return made.set;
     }
-    made.set
+    SequenceNumberSet {
+        base: from,
+        count: 257,
+        words: [0; 8],
+    }
 }
 
 impl Trace {
-    // An ACKNACK taken by the record of one reader.
+    // An ACKNACK taken by the record of reader i.
     fn ack_taken(
         mut self,
-        first: bool,
+        i: usize,
         id: u64,
         set: SequenceNumberSet,
         large: &mut [u64],
         small: &mut [u64],
     ) -> Followed
-        requires { (length large.old ≡ 4352) × (length small.old ≡ 544) }
-        ensures { Gives2 result large.new small.new (ack_followed first id set self large.old small.old) }
+        requires { (i < 2) × (length large.old ≡ 4352) × (length small.old ≡ 544) }
+        ensures { Gives2 result large.new small.new (ack_followed i id set self large.old small.old) }
     {
-        let a = unsent_at(first);
+        let a = unsent_at(i);
         let b = a + ReaderProxy::MOST_UNSENT;
-        let d = gaps_at(first);
+        let d = gaps_at(i);
         let e = d + ReaderProxy::GAPS;
-        let proxy = self.reader(first);
+        let proxy = self.reader(i);
+        let mut flow = self.flow_or_zeros();
         let taken = take_ack_nack(
             &mut self.heads,
-            &mut self.flow,
+            &mut flow,
             proxy,
             &mut large[a..b],
             &mut small[d..e],
             id,
             set,
         );
-        self.started = true;
+        self.flow = Some(flow);
+        self.readers[i] = taken.proxy;
         Followed {
             answer: taken.told.answer,
-            trace: self.with_reader(first, taken.proxy),
+            trace: self,
         }
     }
 
@@ -80,7 +81,7 @@ impl Trace {
             return self.incoherent();
         }
         let set = asked(base, numbers);
-        let first = is_first(matched_reader_lookup(&self.heads, id));
-        self.ack_taken(first, id, set, large, small)
+        let i = reader_of(matched_reader_lookup(&self.heads, id));
+        self.ack_taken(i, id, set, large, small)
     }
 }

@@ -1,17 +1,15 @@
 // op=frag: the fragments of a sample that a reader asks for.
-ghost use Rattle.std.specs.Prelude.{◌≡◌, ◌-◌};
+ghost use Rattle.std.specs.Prelude.{◌≡◌, ◌<◌, ◌-◌};
 ghost use Rattle.numbers.specs.Promise.{Gives2};
 ghost use Rattle.trace_readers.specs.Fragments.{frag_set_with, frag_set_of, asked_of, frag_line};
 
 use crate::state::{Followed, Trace};
-use crate::{is_first, samples_at, words_at};
+use crate::{reader_of, samples_at, words_at};
 use number_sets::FragmentNumberSet;
-use numbers::arith::above;
 use numbers::{FragmentNumber, SequenceNumber};
-use reader_list::Found;
 use reader_list::calls::matched_reader_lookup;
 use rtps_reader_proxy::ReaderProxy;
-use writer_steps::frags::frags_settled;
+use writer_steps::frags::take_nack_frag;
 
 // One with no member.
 fn pieces_with(base: u32, count: u32) -> FragmentNumberSet
@@ -20,7 +18,7 @@ fn pieces_with(base: u32, count: u32) -> FragmentNumberSet
     FragmentNumberSet {
         base: FragmentNumber(base),
         count,
-        words: [0, 0, 0, 0, 0, 0, 0, 0],
+        words: [0; 8],
     }
 }
 
@@ -34,8 +32,7 @@ fn pieces(numbers: &[u64]) -> FragmentNumberSet
     }
     let first = numbers[0];
     let last = numbers[n - 1];
-    let span = above(last, first);
-    if 255 < span {
+    if 255 < last.saturating_sub(first) {
         return pieces_with(1, 257);
     }
     if FragmentNumber::TOP < last {
@@ -45,23 +42,26 @@ fn pieces(numbers: &[u64]) -> FragmentNumberSet
 }
 
 impl Trace {
-    // For one reader.
+    // For reader i.
     fn asked_of(
-        self,
-        first: bool,
-        found: Found,
+        mut self,
+        i: usize,
+        id: u64,
         n: SequenceNumber,
         set: FragmentNumberSet,
         samples: &mut [u64],
         words: &mut [u64],
     ) -> Followed
-        ensures { Gives2 result samples.new words.new (asked_of first found n set self samples.old words.old) }
+        requires { i < 2 }
+        ensures { Gives2 result samples.new words.new (asked_of i id n set self samples.old words.old) }
     {
-        let proxy = self.reader(first);
-        let asked = frags_settled(found, proxy, samples, words, n, set);
-        let answer = asked.answer;
-        let trace = self.with_reader(first, asked.proxy);
-        Followed { answer, trace }
+        let proxy = self.reader(i);
+        let asked = take_nack_frag(&self.heads, proxy, samples, words, id, n, set);
+        self.readers[i] = asked.proxy;
+        Followed {
+            answer: asked.answer,
+            trace: self,
+        }
     }
 
     // op=frag.
@@ -83,12 +83,11 @@ impl Trace {
         }
         let n = SequenceNumber::from_rank(seq);
         let set = pieces(numbers);
-        let found = matched_reader_lookup(&self.heads, id);
-        let first = is_first(found);
-        let a = samples_at(first);
+        let i = reader_of(matched_reader_lookup(&self.heads, id));
+        let a = samples_at(i);
         let b = a + ReaderProxy::FRAG_SAMPLES;
-        let d = words_at(first);
+        let d = words_at(i);
         let e = d + ReaderProxy::FRAG_WORDS;
-        self.asked_of(first, found, n, set, &mut small[a..b], &mut large[d..e])
+        self.asked_of(i, id, n, set, &mut small[a..b], &mut large[d..e])
     }
 }

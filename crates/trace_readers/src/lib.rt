@@ -1,9 +1,9 @@
 // What a trace keeps, and the lines of its readers: what each is answered, and what is then kept.
 #![tactic(auto)]
 
-ghost use Rattle.std.specs.Prelude.{◌≡◌, ◌≤◌};
+ghost use Rattle.std.specs.Prelude.{◌≡◌, ◌<◌, ◌≤◌};
 ghost use Rattle.trace_readers.specs.Rooms.{unsent_at, gaps_at, words_at, samples_at};
-ghost use Rattle.trace_readers.specs.Requests.{is_first};
+ghost use Rattle.trace_readers.specs.Requests.{reader_of};
 
 pub mod acks;
 pub mod frags;
@@ -11,49 +11,41 @@ pub mod sent;
 pub mod state;
 
 use reader_list::Found;
+use rtps_reader_proxy::ReaderProxy;
 pub use state::{Followed, Trace};
 
-// Whether a reader that was looked for stands in the first slot; so counts one that isn't there.
-fn is_first(found: Found) -> bool
-    ensures { result ≡ is_first found }
+// Whose record a reader that was looked for has. One that isn't there counts as the first: what comes before 11 is found by its record.
+fn reader_of(found: Found) -> usize
+    ensures { (result ≡ reader_of found) × (result < 2) }
 {
-    found.place == 0
+    found.place.min(1)
 }
 
-// Where the rooms of the first reader, or of the second, start. The large room has 256 lengths of samples, the unsent numbers of each
-// reader, and the words of fragment bits of each; the small one the gap members of each, and the samples with requested fragments.
-fn unsent_at(first: bool) -> usize
-    ensures { (result ≡ unsent_at first) × (result ≤ 1280) }
+// Where the parts of reader i start in the rooms.
+fn unsent_at(i: usize) -> usize
+    requires { i < 2 }
+    ensures { (result ≡ unsent_at i) × (result ≤ 1280) }
 {
-    if first {
-        return 256;
-    }
-    1280
+    Trace::UNSENT + i * ReaderProxy::MOST_UNSENT
 }
 
-fn words_at(first: bool) -> usize
-    ensures { (result ≡ words_at first) × (result ≤ 3328) }
+fn words_at(i: usize) -> usize
+    requires { i < 2 }
+    ensures { (result ≡ words_at i) × (result ≤ 3328) }
 {
-    if first {
-        return 2304;
-    }
-    3328
+    Trace::WORDS + i * ReaderProxy::FRAG_WORDS
 }
 
-fn gaps_at(first: bool) -> usize
-    ensures { (result ≡ gaps_at first) × (result ≤ 256) }
+fn gaps_at(i: usize) -> usize
+    requires { i < 2 }
+    ensures { (result ≡ gaps_at i) × (result ≤ 256) }
 {
-    if first {
-        return 0;
-    }
-    256
+    i * ReaderProxy::GAPS
 }
 
-fn samples_at(first: bool) -> usize
-    ensures { (result ≡ samples_at first) × (result ≤ 528) }
+fn samples_at(i: usize) -> usize
+    requires { i < 2 }
+    ensures { (result ≡ samples_at i) × (result ≤ 528) }
 {
-    if first {
-        return 512;
-    }
-    528
+    Trace::SAMPLES + i * ReaderProxy::FRAG_SAMPLES
 }

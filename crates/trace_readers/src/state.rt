@@ -1,19 +1,17 @@
 // What a trace keeps from line to line: the writer, once a line has made it, and its two readers. Their rooms are lent beside it.
-ghost use Rattle.std.specs.Prelude.{◌≡◌};
-ghost use Rattle.trace_readers.specs.State.{trace_begun, refused_by, incoherent, not_understood, trace_with_flow, reader_in, with_reader, own_answer};
+ghost use Rattle.std.specs.Prelude.{◌≡◌, ◌<◌};
+ghost use Rattle.trace_readers.specs.State.{trace_begun, refused_by, incoherent, not_understood, flow_in, reader_in};
 
 use numbers::{Answer, SequenceNumber};
 use reader_list::ReaderHead;
 use rtps_reader_proxy::ReaderProxy;
-use writer_send_buffer::{Kind, Limits, WriterSendBuffer};
+use writer_send_buffer::WriterSendBuffer;
 
 #[derive(Clone, Copy)]
 pub struct Trace {
-    pub started: bool,
-    pub flow: WriterSendBuffer,
+    pub flow: Option<WriterSendBuffer>,
     pub heads: [ReaderHead; 2],
-    pub one: ReaderProxy,
-    pub two: ReaderProxy,
+    pub readers: [ReaderProxy; 2],
 }
 
 // What a line is answered, and what the trace then keeps.
@@ -24,47 +22,57 @@ pub struct Followed {
 }
 
 impl Trace {
-    // The lengths of the lent rooms: the large one, the small one and the store. Where each reader's part starts in them is said in lib.rt.
-    pub const LARGE: usize = 4352;
+    // What is asked of the rooms' lengths is asked once for a line, by its public function, and passed on as a `requires`: a `&mut [u64; N]` by
+    // `try_from` is a loan out of a slice in a Result, of which a caller's proof learns nothing (no proof closes).
+    // The large room: the lengths of as many samples as a writer can have, then the unsent numbers of each reader, then the words of
+    // fragment bits of each.
+    pub const SLOTS: usize = 256;
 
-    pub const SMALL: usize = 544;
+    pub const UNSENT: usize = Trace::SLOTS;
 
-    pub const STORE: usize = 4096;
+    pub const WORDS: usize = Trace::UNSENT + 2 * ReaderProxy::MOST_UNSENT;
 
-    // "16-byte slots"
+    pub const LARGE: usize = Trace::WORDS + 2 * ReaderProxy::FRAG_WORDS;
+
+    // The small one: the gap members of each reader, then the samples with requested fragments of each.
+    pub const SAMPLES: usize = 2 * ReaderProxy::GAPS;
+
+    pub const SMALL: usize = Trace::SAMPLES + 2 * ReaderProxy::FRAG_SAMPLES;
+
+    // The store. "16-byte slots"
     pub const SLOT_BYTES: usize = 16;
+
+    pub const STORE: usize = Trace::SLOTS * Trace::SLOT_BYTES;
 
     // Before the first line: no writer, and two readers that nothing is kept of.
     pub fn start() -> Trace
         ensures { result ≡ trace_begun }
     {
-        let kind = Kind {
-            reliable: false,
-            builtin: false,
-            volatile: false,
-        };
-        let limits = Limits {
-            window: 0,
-            backlog: 0,
-            retain: 0,
-            slots: 0,
-            slot_bytes: 0,
-        };
-        let flow = WriterSendBuffer::formed(0, 0, 0, 0, false, kind, limits);
-        let none = SequenceNumber::from_rank(0);
         let free = ReaderHead {
             id: 0,
             reliable: false,
-            acked: none,
+            acked: SequenceNumber::from_rank(0),
         };
         let fresh = ReaderProxy::new(ReaderProxy::DEFAULT_UNSENT_CAP).proxy;
         Trace {
-            started: false,
-            flow,
+            flow: None,
             heads: [free, free],
-            one: fresh,
-            two: fresh,
+            readers: [fresh, fresh],
         }
+    }
+
+    // The flow record; zeros until there is a writer.
+    pub fn flow_or_zeros(self) -> WriterSendBuffer
+        ensures { result ≡ flow_in self }
+    {
+        self.flow.unwrap_or(WriterSendBuffer::default())
+    }
+
+    pub(crate) fn reader(self, i: usize) -> ReaderProxy
+        requires { i < 2 }
+        ensures { result ≡ reader_in i self }
+    {
+        self.readers[i]
     }
 
     // A refusal: nothing changes.
@@ -90,61 +98,4 @@ impl Trace {
     {
         self.refused(Answer::not_understood())
     }
-
-    // The same readers, with the flow record and the list as they then are.
-    pub fn with_flow(self, flow: WriterSendBuffer, heads: [ReaderHead; 2]) -> Trace
-        ensures { result ≡ trace_with_flow flow heads self }
-    {
-        let one = self.one;
-        let two = self.two;
-        Trace {
-            started: true,
-            flow,
-            heads,
-            one,
-            two,
-        }
-    }
-
-    // The first reader's proxy, or the second's.
-    pub fn reader(self, first: bool) -> ReaderProxy
-        ensures { result ≡ reader_in first self }
-    {
-        if first {
-            return self.one;
-        }
-        self.two
-    }
-
-    pub fn with_reader(self, first: bool, proxy: ReaderProxy) -> Trace
-        ensures { result ≡ with_reader first proxy self }
-    {
-        let flow = self.flow;
-        let heads = self.heads;
-        let one = self.one;
-        let two = self.two;
-        if first {
-            return Trace {
-                started: self.started,
-                flow,
-                heads,
-                one: proxy,
-                two,
-            };
-        }
-        Trace {
-            started: self.started,
-            flow,
-            heads,
-            one,
-            two: proxy,
-        }
-    }
-}
-
-// 1, where a record and its rooms aren't coherent.
-pub fn coherence(coherent: bool) -> Answer
-    ensures { result ≡ own_answer coherent }
-{
-    Answer::coherence(coherent)
 }

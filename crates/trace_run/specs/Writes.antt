@@ -1,5 +1,5 @@
 -- op=write len=: a sample admitted, and every reader that is there told its number. Assumes nothing.
-use Rattle.std.specs.Prelude.{ℕ, ◌*◌, min, Bool, false, cond, ◌&&◌, List, eqb, get_or, take, replicate}
+use Rattle.std.specs.Prelude.{ℕ, zero, suc, ◌*◌, min, Bool, false, cond, ◌&&◌, List, eqb, get_or, take, replicate}
 use Rattle.numbers.specs.Refusals.{is_done}
 use Rattle.numbers.specs.Promise.{Left1, Left2}
 use Rattle.numbers.specs.declared.sequence_number.SequenceNumber.{SequenceNumber}
@@ -13,8 +13,8 @@ use Rattle.writer_send_buffer.specs.declared.samples.Admitted.{Admitted}
 use Rattle.writer_send_buffer.specs.Samples.{admit_of, handed}
 use Rattle.trace_readers.specs.declared.state.Trace.{Trace}
 use Rattle.trace_readers.specs.declared.state.Followed.{Followed}
-use Rattle.trace_readers.specs.State.{refused_by, incoherent, own_answer, trace_with_flow}
-use Rattle.trace_readers.specs.Rooms.{part, put, large_fits, store_fits}
+use Rattle.trace_readers.specs.State.{refused_by, incoherent, own_answer, flow_in, trace_with_flow, reader_in, with_reader}
+use Rattle.trace_readers.specs.Rooms.{part, put, large_fits, unsent_at, store_fits}
 
 -- "It notifies every reader of each admitted number"; a free slot is none
 abbrev pub told_to : ReaderHead → SequenceNumber → ReaderProxy → List ℕ → Left1 ReaderProxy (List ℕ)
@@ -23,25 +23,27 @@ told_to h n p unsent =
     (record { result = p; first = unsent })
     (record { result = (notified_of n p unsent).result.proxy; first = (notified_of n p unsent).first })
 
-abbrev pub told_one : Trace → SequenceNumber → List ℕ → Left1 ReaderProxy (List ℕ)
-told_one t n large = told_to (get_or t.heads 0 free_slot) n t.one (part 256 1024 large)
+-- reader i, with its part of the room
+abbrev pub told_put : ℕ → Trace → List ℕ → Left1 ReaderProxy (List ℕ) → Left1 Trace (List ℕ)
+told_put i t large o = record { result = with_reader i o.result t; first = put (unsent_at i) 1024 o.first large }
 
-abbrev pub after_one : Trace → SequenceNumber → List ℕ → List ℕ
-after_one t n large = put 256 1024 (told_one t n large).first large
+abbrev pub told_at : ℕ → Trace → SequenceNumber → List ℕ → Left1 Trace (List ℕ)
+told_at i t n large = told_put i t large (told_to (get_or t.heads i free_slot) n (reader_in i t) (part (unsent_at i) 1024 large))
 
-abbrev pub told_two : Trace → SequenceNumber → List ℕ → Left1 ReaderProxy (List ℕ)
-told_two t n large = told_to (get_or t.heads 1 free_slot) n t.two (part 1280 1024 (after_one t n large))
+-- the first so many, and both
+abbrev pub told_first : ℕ → Trace → SequenceNumber → List ℕ → Left1 Trace (List ℕ)
+told_first zero t n large = record { result = t; first = large }
+told_first (suc i) t n large = told_at i (told_first i t n large).result n (told_first i t n large).first
 
 abbrev pub told_both : Trace → SequenceNumber → List ℕ → Left1 Trace (List ℕ)
-told_both t n large =
-    record {
-      result = record { started = t.started; flow = t.flow; heads = t.heads; one = (told_one t n large).result; two = (told_two t n large).result };
-      first = put 1280 1024 (told_two t n large).first (after_one t n large);
-    }
+told_both = told_first 2
 
 -- both readers' unsent numbers have to be coherent
+abbrev pub coherent_at : ℕ → Trace → List ℕ → Bool
+coherent_at i t large = unsent_coherent (reader_in i t) (part (unsent_at i) 1024 large)
+
 abbrev pub both_coherent : Trace → List ℕ → Bool
-both_coherent t large = unsent_coherent t.one (part 256 1024 large) && unsent_coherent t.two (part 1280 1024 large)
+both_coherent t large = coherent_at 0 t large && coherent_at 1 t large
 
 -- THE SAMPLE, in as much of the rooms as the slots take
 
@@ -73,7 +75,7 @@ written_by a t =
 abbrev pub written_of : List ℕ → Trace → List ℕ → List ℕ → Left2 Followed (List ℕ) (List ℕ)
 written_of payload t store large =
     cond (is_done (own_answer (both_coherent t large)))
-    (written_by (admit_put t.flow payload store large) t)
+    (written_by (admit_put (flow_in t) payload store large) t)
     (record { result = refused_by (own_answer (both_coherent t large)) t; first = store; second = large })
 
 -- zeros, as many as the line says; one byte too many stands for any number of bytes too many

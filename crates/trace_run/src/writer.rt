@@ -25,20 +25,20 @@ pub fn new_step(trace: Trace, window: u64, backlog: u64, retain: u64, slots: u64
         slot_bytes: 16,
     };
     let made = WriterSendBuffer::new(kind, limits);
-    let answer = made.answer;
-    if answer.number != 0 {
-        return trace.refused(answer);
+    if made.answer.number != 0 {
+        return trace.refused(made.answer);
     }
-    let heads = trace.heads;
-    let after = trace.with_flow(made.flow, heads);
     Followed {
-        answer,
-        trace: after,
+        answer: made.answer,
+        trace: Trace {
+            flow: Some(made.flow),
+            ..trace
+        },
     }
 }
 
 // op=match: a reliable reader.
-pub fn match_step(trace: Trace, id: u64) -> Followed
+pub fn match_step(mut trace: Trace, id: u64) -> Followed
     ensures { result ≡ matched_step id trace }
 {
     let m = Match {
@@ -46,26 +46,21 @@ pub fn match_step(trace: Trace, id: u64) -> Followed
         reliable: true,
         cap: 1024,
     };
-    let mut after = trace;
-    let told = match_reader(&mut after.heads, &mut after.flow, m);
-    after.started = true;
+    let mut flow = trace.flow_or_zeros();
+    let told = match_reader(&mut trace.heads, &mut flow, m);
+    trace.flow = Some(flow);
     Followed {
         answer: told.answer,
-        trace: after,
+        trace,
     }
 }
 
 // op=evict.
-pub fn evict_step(trace: Trace, before: u64) -> Followed
+pub fn evict_step(mut trace: Trace, before: u64) -> Followed
     ensures { result ≡ evict_step before trace }
 {
-    let flow = trace.flow;
-    let moved = flow.with_changes_removed(SequenceNumber::from_rank(before));
-    let answer = moved.answer;
-    let heads = trace.heads;
-    let after = trace.with_flow(moved.flow, heads);
-    Followed {
-        answer,
-        trace: after,
-    }
+    let mut flow = trace.flow_or_zeros();
+    let answer = flow.remove_changes_before(SequenceNumber::from_rank(before));
+    trace.flow = Some(flow);
+    Followed { answer, trace }
 }

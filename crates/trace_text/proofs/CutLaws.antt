@@ -1,39 +1,15 @@
 -- Laws of the input's cuts, as the code goes along a piece. Assumes nothing.
 use Prim.Native.Nat.{ℕ, ◌+◌, ◌<◌, ◌≤◌, min}
-use mathlib.Core.Path.{◌≡◌, refl, sym, ap, subst, ◌∙◌}
+use mathlib.Core.Path.{◌≡◌, refl, sym, ap}
 use mathlib.Core.Bool.{Bool, true, false, cond}
 use mathlib.Core.List.{List, [], ◌∷◌, ◌++◌}
 use native.Mathlib.Nat.{lt_irrefl}
 use native.Mathlib.Omega.{arith}
 use lib.Dec.{eqb}
-use lib.ListN.{length, drop, get_or, set}
-use borrow.Author.Tests.{eq-eqb, ne_eqb}
-use Rattle.numbers.specs.Promise.{Left1, Gives1}
-use Rattle.sets.proofs.Loops.{here, done}
+use lib.ListN.{length, set}
+use Rattle.numbers.specs.Promise.{Left1}
 use Rattle.trace_text.specs.declared.lines.Cut.{Cut}
-use Rattle.trace_text.specs.Cuts.{cut_of, held1}
-
-module _ (s line : List ℕ) (i n : ℕ) where
-  -- a newline ends the line
-  pub cut_ends : (o : Left1 Cut (List ℕ)) → i < length s → get_or s i 0 ≡ 10 → cut_of i (drop i s) n line ≡ o → Gives1 (record { at = i + 1; held = n; ended = true }) line o
-  cut_ends o h b e =
-      let f : record { result = record { at = i + 1; held = n; ended = true }; first = line } ≡ o
-      = sym (ap (λ (x : List ℕ). cut_of i x n line) (here s i h) ∙ rw (eq-eqb (get_or s i 0) 10 b) refl) ∙ e in
-      subst (λ (x : Left1 Cut (List ℕ)). Gives1 (record { at = i + 1; held = n; ended = true }) line x) f (record { result = refl; first = refl })
-
-  -- any other byte joins it
-  pub cut_next : (r : ℕ) (u : List ℕ) → i < length s → (get_or s i 0 ≡ 10 → ⊥) → Gives1 r u (held1 n (get_or s i 0) line) → cut_of (i + 1) (drop (i + 1) s) r u ≡ cut_of i (drop i s) n line
-  cut_next r u h b g =
-      ap (λ (x : ℕ). cut_of (i + 1) (drop (i + 1) s) x u) g.result
-      ∙ ap (cut_of (i + 1) (drop (i + 1) s) (min n (length line) + 1)) g.first
-      ∙ sym (ap (λ (x : List ℕ). cut_of i x n line) (here s i h) ∙ rw (ne_eqb (get_or s i 0) 10 b) refl)
-
-  -- the piece ends
-  pub cut_stops : (o : Left1 Cut (List ℕ)) → length s ≤ i → cut_of i (drop i s) n line ≡ o → Gives1 (record { at = i; held = n; ended = false }) line o
-  cut_stops o h e =
-      let f : record { result = record { at = i; held = n; ended = false }; first = line } ≡ o
-      = ap (λ (x : List ℕ). cut_of i x n line) (sym (done s i h)) ∙ e in
-      subst (λ (x : Left1 Cut (List ℕ)). Gives1 (record { at = i; held = n; ended = false }) line x) f (record { result = refl; first = refl })
+use Rattle.trace_text.specs.Cuts.{cut_of}
 
 -- a cut goes on
 not_back : (s : List ℕ) (at n : ℕ) (line : List ℕ) → at ≤ (cut_of at s n line).result.at

@@ -1,4 +1,5 @@
-// Bytes put into a lent room from a place on, as far as it reaches; the place after them.
+// Bytes put into a lent room from a place on, as far as it reaches; the place after them. The room and the place stay two parameters: of a
+// struct that holds the `&mut` each function has to promise, beside what it puts, that it is the same reference still. That is no plainer.
 ghost use Rattle.std.specs.Prelude.{◌≡◌, [], ◌∷◌, ◌++◌, ◌+◌, ◌<◌};
 ghost use Rattle.numbers.specs.Promise.{Gives1};
 ghost use Rattle.trace_text.specs.Answers.{put_of, decimal, digits, answer_text};

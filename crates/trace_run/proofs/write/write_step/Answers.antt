@@ -16,5 +16,5 @@ pub returns : goal.returns
 returns c =
     let a = c.args in
     let w = c.written in
-    write-line a.len a.trace a.store.now a.large.now c.if-store-ne-STORE.false c.if-large-ne-LARGE.false c.smaller-n.result c.smaller-n.ensures
+    write-line a.len a.trace a.store.now a.large.now c.if-store-ne-STORE.false c.if-large-ne-LARGE.false c.min-n.result c.min-n.ensures
     w.result w.new.store w.new.large w.ensures

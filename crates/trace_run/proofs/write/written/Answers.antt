@@ -1,6 +1,9 @@
 -- The payload admitted, or refused by the buffer, and then both readers told.
-use Rattle.std.proofs.Common.{ap, ◌∙◌}
+use Rattle.std.proofs.Common.{ℕ, List, ap, refl, subst, ◌∙◌}
+use Rattle.numbers.specs.Promise.{Gives2}
+use Rattle.writer_send_buffer.specs.declared.flow.WriterSendBuffer.{WriterSendBuffer}
 use Rattle.trace_readers.specs.State.{own_answer}
+use Rattle.trace_run.specs.Writes.{admit_put}
 use Rattle.trace_run.proofs.WriteLaws.{admit_refused, write_done}
 use Rattle.trace_run.proofs.write.written.Goals as goal
 
@@ -8,17 +11,20 @@ pub returns-then-answer-ne0 : goal.returns-then-answer-ne0
 returns-then-answer-ne0 c =
     let a = c.args in
     let own = c.coherence-own in
-    let admitted = c.admitted_in-admitted in
+    let d = c.admitted_in-admitted in
     let refused = c.refused-then-answer-ne0 in
     admit_refused a.payload.now a.trace a.store.now a.large.now own.result (own.ensures ∙ ap own_answer c.both_coherent.ensures) c.if-own-ne0.false
-    admitted.result admitted.new.store admitted.new.large admitted.ensures c.if-answer-ne0.true refused.result refused.ensures
+    d.result d.new.store d.new.large
+    (subst (λ (f : WriterSendBuffer). Gives2 d.result d.new.store d.new.large (admit_put f a.payload.now a.store.now a.large.now)) c.flow_or_zeros.ensures d.ensures)
+    c.if-answer-ne0.true refused.result refused.ensures
 
 pub returns : goal.returns
 returns c =
     let a = c.args in
     let own = c.coherence-own in
-    let admitted = c.admitted_in-admitted in
-    let after = c.with_flow-after in
-    let told = c.told_both-told in
+    let d = c.admitted_in-admitted in
+    let told = c.told_both in
     write_done a.payload.now a.trace a.store.now a.large.now own.result (own.ensures ∙ ap own_answer c.both_coherent.ensures) c.if-own-ne0.false
-    admitted.result admitted.new.store admitted.new.large admitted.ensures c.if-answer-ne0.false after.result after.ensures told.result told.new.large told.ensures
+    d.result d.new.store d.new.large
+    (subst (λ (f : WriterSendBuffer). Gives2 d.result d.new.store d.new.large (admit_put f a.payload.now a.store.now a.large.now)) c.flow_or_zeros.ensures d.ensures)
+    c.if-answer-ne0.false _ refl told.result told.new.large told.ensures

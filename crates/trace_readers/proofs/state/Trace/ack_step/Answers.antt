@@ -15,4 +15,4 @@ returns c =
     let a = c.args in
     let taken = c.ack_taken in
     ack-line a.id a.base a.numbers.now a.self a.large.now a.small.now c.if-large-ne-LARGE.false c.if-small-ne-SMALL.false _ c.asked-set.ensures _ c.matched_reader_lookup.ensures
-    c.is_first-first.result c.is_first-first.ensures taken.result taken.new.large taken.new.small taken.ensures
+    c.reader_of-i.result c.reader_of-i.ensures.0 taken.result taken.new.large taken.new.small taken.ensures

@@ -1,4 +1,5 @@
 -- The reader's part of the rooms, taken by the step and put back.
+use Rattle.std.proofs.Common.{refl}
 use Rattle.trace_readers.proofs.AckLaws.{ack-part}
 use Rattle.trace_readers.proofs.state.Trace.ack_taken.Goals as goal
 
@@ -6,5 +7,5 @@ pub returns : goal.returns
 returns c =
     let a = c.args in
     let step = c.take_ack_nack-taken in
-    ack-part a.first a.id a.set a.self a.large.now a.small.now c.unsent_at-a.result c.gaps_at-d.result c.unsent_at-a.ensures.0 c.gaps_at-d.ensures.0
-    c.reader-proxy.result c.reader-proxy.ensures step.result _ _ step.new.unsent step.new.gaps step.ensures c.with_reader.result c.with_reader.ensures
+    ack-part a.i a.id a.set a.self a.large.now a.small.now c.unsent_at-a.result c.gaps_at-d.result c.unsent_at-a.ensures.0 c.gaps_at-d.ensures.0
+    c.reader-proxy.result c.reader-proxy.ensures c.flow_or_zeros-flow.result c.flow_or_zeros-flow.ensures step.result step.new.list step.new.flow step.new.unsent step.new.gaps step.ensures _ refl

@@ -7,4 +7,4 @@ returns c =
     let a = c.args in
     let sent = c.sent_to in
     sent-line a.id a.seq a.self a.large.now c.if-large-ne-LARGE.false _ c.from_rank-n.ensures c.matched_reader_lookup-found.result c.matched_reader_lookup-found.ensures
-    c.is_first-first.result c.is_first-first.ensures c.unsent_at-a.result c.unsent_at-a.ensures.0 sent.result sent.new.unsent sent.ensures
+    c.reader_of-i.result c.reader_of-i.ensures.0 c.unsent_at-a.result c.unsent_at-a.ensures.0 sent.result sent.new.unsent sent.ensures
