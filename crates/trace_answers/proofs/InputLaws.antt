@@ -1,17 +1,16 @@
 -- The steps of answering a piece of the input. Assumes nothing.
 use Prim.Native.Nat.{ℕ}
 use mathlib.Core.Path.{◌≡◌, refl, sym, ap, subst, ◌∙◌}
-use mathlib.Core.Bool.{Bool, true, false, cond}
+use mathlib.Core.Bool.{Bool, true, cond}
 use mathlib.Core.List.{List}
 use lib.ListN.{drop}
 use Rattle.numbers.specs.Promise.{Left1, Gives1, Gives3}
 use Rattle.trace_text.specs.declared.lines.Cut.{Cut}
 use Rattle.trace_text.specs.Cuts.{cut_of}
-use Rattle.trace_text.specs.Answers.{put_of}
 use Rattle.trace_readers.specs.declared.state.Followed.{Followed}
 use Rattle.trace_answers.specs.declared.input.Answering.{Answering}
-use Rattle.trace_answers.specs.Shown.{follow_held, shown_text}
-use Rattle.trace_answers.specs.Input.{Gives5, Standing, next_line, held_now, with_cut, shown_by, answered_by, cut_by, answer_line}
+use Rattle.trace_answers.specs.Shown.{follow_held}
+use Rattle.trace_answers.specs.Input.{Gives5, Standing, held_now, with_cut, shown_by, answered_by, cut_by, answer_line}
 
 -- a promise of one thing lent is one whole outcome
 whole : (c : Cut) (u : List ℕ) (o : Left1 Cut (List ℕ)) → Gives1 c u o → record { result = c; first = u } ≡ o

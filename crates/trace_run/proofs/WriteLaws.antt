@@ -1,9 +1,8 @@
 -- op=write, from the calls to the line. Assumes nothing.
-use Prim.Native.Nat.{ℕ, suc, ◌+◌, ◌-◌, ◌*◌, min}
+use Prim.Native.Nat.{ℕ, suc, ◌+◌, ◌-◌, min}
 use mathlib.Core.Path.{◌≡◌, refl, sym, ap, subst, ◌∙◌}
-use mathlib.Core.Bool.{Bool, false}
+use mathlib.Core.Bool.{Bool}
 use mathlib.Core.List.{List, ◌++◌}
-use native.Mathlib.Nat.{sub-zero}
 use native.Mathlib.Numerals.{add-one}
 use lib.ListN.{length, take, drop, get_or, replicate}
 use borrow.Author.Tests.{eq-eqb, ne_eqb}
@@ -13,15 +12,13 @@ use Rattle.numbers.specs.declared.sequence_number.SequenceNumber.{SequenceNumber
 use Rattle.rtps_reader_proxy.specs.declared.proxy.ReaderProxy.{ReaderProxy}
 use Rattle.rtps_reader_proxy.specs.Record.{unsent_coherent}
 use Rattle.reader_list.specs.Slots.{free_slot}
-use Rattle.writer_send_buffer.specs.declared.flow.WriterSendBuffer.{WriterSendBuffer}
 use Rattle.writer_send_buffer.specs.declared.samples.Admitted.{Admitted}
-use Rattle.writer_send_buffer.specs.Samples.{admit_of, handed}
 use Rattle.trace_readers.specs.declared.state.Trace.{Trace}
 use Rattle.trace_readers.specs.declared.state.Followed.{Followed}
 use Rattle.trace_readers.specs.State.{refused_by, incoherent, own_answer, flow_in, trace_with_flow, reader_in, with_reader}
-use Rattle.trace_readers.specs.Rooms.{part, put, unsent_at}
+use Rattle.trace_readers.specs.Rooms.{part, unsent_at}
 use Rattle.trace_readers.proofs.Parts.{part_as, put_as}
-use Rattle.trace_run.specs.Writes.{told_to, told_at, told_first, told_both, coherent_at, both_coherent, slots_in, admit_in, admit_put, told_after, written_by, written_of, payload_of, write_line}
+use Rattle.trace_run.specs.Writes.{told_to, told_at, told_first, told_both, coherent_at, both_coherent, admit_put, told_after, written_by, written_of, payload_of, write_line}
 
 -- one reader, in its part of the room
 pub coherent-part : (i : ℕ) (t : Trace) (large : List ℕ) (a : ℕ) → a ≡ unsent_at i → (p : ReaderProxy) → p ≡ reader_in i t

@@ -1,5 +1,5 @@
 -- The payload admitted, or refused by the buffer, and then both readers told.
-use Rattle.std.proofs.Common.{ℕ, List, ap, refl, subst, ◌∙◌}
+use Rattle.std.proofs.Common.{ap, refl, subst, ◌∙◌}
 use Rattle.numbers.specs.Promise.{Gives2}
 use Rattle.writer_send_buffer.specs.declared.flow.WriterSendBuffer.{WriterSendBuffer}
 use Rattle.trace_readers.specs.State.{own_answer}
