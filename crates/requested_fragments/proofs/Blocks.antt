@@ -1,7 +1,7 @@
 -- The table in two rooms: what marking leaves there. Assumes nothing.
 use Prim.Native.Nat.{ℕ, suc, ◌+◌, ◌-◌, ◌*◌, ◌≤◌, ◌<◌}
 use mathlib.Core.Path.{◌≡◌, refl, sym, ap, ◌∙◌}
-use mathlib.Core.Bool.{Bool, true, false, not, ◌&&◌}
+use mathlib.Core.Bool.{Bool, true, false, not, ◌&&◌, cond}
 use mathlib.Core.List.{List, [], ◌∷◌, ◌++◌, append_assoc}
 use lib.Dec.{eqb}
 use lib.ListN.{length, take, drop}
@@ -10,10 +10,14 @@ use native.Mathlib.Omega.{arith}
 use Rattle.sets.proofs.Bools.{and_assoc, and_yes}
 use Rattle.sets.specs.Sets.{empty}
 use Rattle.requested_fragments.specs.Words.{fragments_of, not_asking}
-use Rattle.requested_fragments.specs.Find.{index_of}
 use Rattle.rising.proofs.Rooms.{drop-take}
 use Rattle.requested_fragments.proofs.Cases.{by_bool}
 use Rattle.requested_fragments.specs.Table.{Block, blocks_of, samples_in, words_in, mark_t, all_hold}
+
+-- where n stands first, or the length
+abbrev pub index_of : ℕ → List ℕ → ℕ
+index_of n [] = 0
+index_of n (m ∷ ms) = cond (eqb m n) 0 (suc (index_of n ms))
 
 -- ---- 64 words more
 pub t64 : (x : ℕ) (ws : List ℕ) → take (64 * suc x) ws ≡ take 64 ws ++ take (64 * x) (drop 64 ws)

@@ -14,10 +14,11 @@ use borrow.Author.Tests.{eqb-true, eqb-false, eq-eqb, ne_eqb, ltb-true, ltb-fals
 use Rattle.number_sets.proofs.Eight.{eqb_same}
 use Rattle.sets.specs.Sets.{has, From, insert, only, without, empty}
 use Rattle.sets.proofs.Has.{has-insert, has-only, From-insert, From-only, From-low}
-use Rattle.sets.proofs.Bools.{decide, clash}
+use Rattle.sets.proofs.Bools.{decide, clash, and_left, and_right}
 use Rattle.sets.proofs.Those.{From-those, has_those_is}
 use Rattle.sets.proofs.Ext.{ext, From_off}
 use Rattle.std.specs.Prelude.{Some, None}
+use Rattle.rising.specs.Runs.{zeros}
 use Rattle.sets.proofs.First.{first-is, empty-none, empty-some}
 use Rattle.number_sets.proofs.First.{first_none, first_some}
 use Rattle.requested_fragments.specs.Words.{low_bit_of, low_bit_at, fragments_of, asking, not_asking, next_in}
@@ -251,6 +252,25 @@ zeros-empty ws h = none-empty (fragments_of ws) go
         pick : (ltb p (64 * length ws) ≡ true) ⊎ (ltb p (64 * length ws) ≡ false) → low_bit_at ws p ≡ false
         pick (inl z) = word_none ws (p / 64) p (h (p / 64) (omega (arith, ltb-true p (64 * length ws) z))) refl
         pick (inr z) = past ws p (ltb-false p (64 * length ws) z)
+
+-- no word asks for anything if all are zero, and only then
+zero_at : (ws : List ℕ) → zeros ws ≡ true → (k : ℕ) → ◌≡◌ {A = ℕ} (get_or ws k 0) 0
+zero_at [] e k = refl
+zero_at (x ∷ xs) e zero = eqb-true x 0 (and_left (eqb x 0) (zeros xs) e)
+zero_at (x ∷ xs) e (suc k) = zero_at xs (and_right (eqb x 0) (zeros xs) e) k
+
+zeros_from : (ws : List ℕ) → ((k : ℕ) → ◌≡◌ {A = ℕ} (get_or ws k 0) 0) → zeros ws ≡ true
+zeros_from [] h = refl
+zeros_from (x ∷ xs) h = rw (eq-eqb x 0 (h 0)) (zeros_from xs (λ k. h (suc k)))
+
+pub zeros_is : (ws : List ℕ) → ((k : ℕ) → get_or ws k 0 < 2 ^ 64) → zeros ws ≡ empty (fragments_of ws)
+zeros_is ws fits = go (zeros ws) refl (empty (fragments_of ws)) refl
+  where
+    go : (t : Bool) → zeros ws ≡ t → (u : Bool) → empty (fragments_of ws) ≡ u → t ≡ u
+    go true e true f = refl
+    go false e false f = refl
+    go true e false f = sym (zeros-empty ws (λ k h. zero_at ws e k)) ∙ f
+    go false e true f = sym e ∙ zeros_from ws (λ k. empty_word ws k (fits k) f)
 
 pub or_none_lem : (a b : ℕ) → bit_or a b ≡ 0 → (a ≡ 0) × (b ≡ 0)
 or_none_lem a b e = (omega (arith, or_add_and a b, and_le_l a b, and_le_r a b), omega (arith, or_add_and a b, and_le_l a b, and_le_r a b))

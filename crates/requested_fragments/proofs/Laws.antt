@@ -7,8 +7,8 @@ use native.Mathlib.Omega.{arith}
 use lib.Dec.{eqb, leb}
 use lib.ListN.{length, take, drop, length-drop}
 use lib.Seq.{take_all}
-use borrow.Author.Tests.{le-leb, lt-leb, eq-eqb, ne_eqb}
-use Rattle.sets.proofs.Bools.{and_no}
+use borrow.Author.Tests.{leb-true, le-leb, lt-leb, eq-eqb, ne_eqb}
+use Rattle.sets.proofs.Bools.{and_no, and_left, and_right}
 use Rattle.numbers.specs.Promise.{Gives1, Gives2}
 use Rattle.rising.specs.Runs.{zeros, run_coherent, over, in_room}
 use Rattle.rising.proofs.Meaning.{run_is}
@@ -60,6 +60,10 @@ module _ (count : ℕ) (S W : List ℕ) where
 
   pub short_words : length W / 64 < count → rooms_hold count S W ≡ false
   short_words h = rw (lt-leb (64 * count) (length W) (omega arith)) (and_no (leb count (length S)))
+
+  pub fits : rooms_hold count S W ≡ true → (count ≤ length S) × (64 * count ≤ length W)
+  fits h =
+      (leb-true count (length S) (and_left (leb count (length S)) (leb (64 * count) (length W)) h), leb-true (64 * count) (length W) (and_right (leb count (length S)) (leb (64 * count) (length W)) h))
 
   pub marked-same : (n f : ℕ) → rooms_hold count S W ≡ false → Gives2 count S W (marked_in n f count S W)
   marked-same n f h = rw h (record { result = refl; first = refl; second = refl })

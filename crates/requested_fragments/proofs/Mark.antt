@@ -1,21 +1,22 @@
 -- What `mark_in` leaves in the rooms. Assumes nothing.
 use Prim.Native.Nat.{ℕ, suc, ◌+◌, ◌-◌, ◌*◌, ◌≤◌, ◌<◌, max}
-use mathlib.Core.Path.{◌≡◌, sym, ap, subst, ◌∙◌}
+use mathlib.Core.Path.{◌≡◌, refl, sym, ap, subst, ◌∙◌}
 use mathlib.Core.Bool.{Bool, true, false, not, cond}
-use mathlib.Core.List.{List, ◌++◌, append_assoc}
+use mathlib.Core.List.{List, [], ◌∷◌, ◌++◌, append_assoc}
 use lib.ListN.{length, take, drop, get_or, length-append, length-take, length-drop, take-append-drop}
 use lib.Seq.{drop-drop, take-take, length-take-le, take_at, drop_at}
 use native.Mathlib.Omega.{arith}
-use borrow.Author.Tests.{eq-eqb, ne_eqb}
-use Rattle.sets.proofs.Loops.{here, done}
+use borrow.Author.Tests.{ltb-true, ltb-false}
+use lib.Dec.{eqb, ltb}
+use Rattle.std.specs.Prelude.{Some, None, position}
+use Rattle.std.specs.List.{position_or_len}
 use Rattle.sets.specs.Sets.{empty}
 use Rattle.requested_fragments.specs.Words.{fragments_of, not_asking}
 use Rattle.requested_fragments.proofs.Frags.{not_asking-length}
 use Rattle.rising.specs.Runs.{over}
-use Rattle.requested_fragments.specs.Find.{index_of}
 use Rattle.rising.proofs.Rooms.{drop-take, room-same}
 use Rattle.requested_fragments.specs.Table.{Block, blocks_of, samples_in, words_in, mark_t}
-use Rattle.requested_fragments.proofs.Blocks.{samples_of_lem, words_of, length_of, samples-length, mark_absent, mark_kept_samples, mark_kept_words, mark_gone_samples, mark_gone_words}
+use Rattle.requested_fragments.proofs.Blocks.{index_of, samples_of_lem, words_of, length_of, samples-length, mark_absent, mark_kept_samples, mark_kept_words, mark_gone_samples, mark_gone_words}
 
 pub over-full : (a l : List ℕ) (c : ℕ) → length l ≡ c → over a c l ≡ l ++ drop c a
 over-full a l c e =
@@ -167,16 +168,27 @@ clear_law W Z a f r h z e =
       ap (λ (k : ℕ). take a W ++ (Z ++ drop k (drop a W))) s ∙ ap (λ (x : List ℕ). take a W ++ (Z ++ x)) (drop-drop 64 a W) ∙ ap (λ (x : List ℕ). take a W ++ (x ++ drop (a + 64) W)) y,
     )
 
--- the place of a number, in what is looked at and what is left
-pub find_more : (n : ℕ) (s : List ℕ) (i : ℕ) → i < length s → (get_or s i 0 ≡ n → ⊥) → index_of n s ≡ i + index_of n (drop i s) → index_of n s ≡ i + 1 + index_of n (drop (i + 1) s)
-find_more n s i h d e =
-    let q : index_of n (drop i s) ≡ suc (index_of n (drop (i + 1) s)) = ap (index_of n) (here s i h) ∙ ap (λ (t : Bool). cond t 0 (suc (index_of n (drop (i + 1) s)))) (ne_eqb (get_or s i 0) n d) in
-    omega arith
+-- what the place of a number tells
+index_is : (n : ℕ) (s : List ℕ) → position_or_len (λ m. eqb m n) s ≡ index_of n s
+index_is n [] = refl
+index_is n (m ∷ ms) = go (eqb m n) (index_is n ms)
+  where
+    go : (t : Bool) → position_or_len (λ m. eqb m n) ms ≡ index_of n ms → cond (not t) (1 + position_or_len (λ m. eqb m n) ms) 0 ≡ cond t 0 (suc (index_of n ms))
+    go true r = refl
+    go false r = omega (arith, r)
 
-pub find_here : (n : ℕ) (s : List ℕ) (i : ℕ) → i < length s → get_or s i 0 ≡ n → index_of n s ≡ i + index_of n (drop i s) → i ≡ index_of n s
-find_here n s i h d e =
-    let q : index_of n (drop i s) ≡ 0 = ap (index_of n) (here s i h) ∙ ap (λ (t : Bool). cond t 0 (suc (index_of n (drop (i + 1) s)))) (eq-eqb (get_or s i 0) n d) in
-    omega arith
+pub find_none : (n : ℕ) (s : List ℕ) → position (λ m. eqb m n) s ≡ None → length s ≤ index_of n s
+find_none n s e = go (ltb (position_or_len (λ m. eqb m n) s) (length s)) refl e
+  where
+    go : (t : Bool) → ltb (position_or_len (λ m. eqb m n) s) (length s) ≡ t → cond t (Some (position_or_len (λ m. eqb m n) s)) None ≡ None → length s ≤ index_of n s
+    go true f z = cc
+    go false f z = omega (arith, ltb-false (position_or_len (λ m. eqb m n) s) (length s) f, index_is n s)
 
-pub find_end : (n : ℕ) (s : List ℕ) (i : ℕ) → length s ≤ i → index_of n s ≡ i + index_of n (drop i s) → i ≡ index_of n s
-find_end n s i h e = let q : index_of n (drop i s) ≡ 0 = ap (index_of n) (done s i h) in omega arith
+pub find_some : (n e : ℕ) (s : List ℕ) → position (λ m. eqb m n) s ≡ Some e → (e ≡ index_of n s) × (e < length s)
+find_some n e s h = go (ltb (position_or_len (λ m. eqb m n) s) (length s)) refl h
+  where
+    go : (t : Bool) → ltb (position_or_len (λ m. eqb m n) s) (length s) ≡ t → cond t (Some (position_or_len (λ m. eqb m n) s)) None ≡ Some e → (e ≡ index_of n s) × (e < length s)
+    go true f z =
+        let q : position_or_len (λ m. eqb m n) s ≡ e = cc in
+        (sym q ∙ index_is n s, omega (arith, ltb-true (position_or_len (λ m. eqb m n) s) (length s) f))
+    go false f z = cc

@@ -14,7 +14,7 @@ use Rattle.numbers.specs.Promise.{Gives1, Gives2}
 use Rattle.rising.specs.Runs.{place_of, holds_at, put_in, over, in_room, insert_within}
 use Rattle.rising.proofs.Inserts.{insert_new, put-length}
 use Rattle.requested_fragments.specs.Table.{Block, table_of, samples_in, words_in, ask_t, ask_all, rooms_hold, asked_in}
-use Rattle.requested_fragments.proofs.Laws.{in_run, fit, short_samples, short_words}
+use Rattle.requested_fragments.proofs.Laws.{in_run, fit}
 use Rattle.requested_fragments.proofs.Joined.{join_law, fresh_law, new_length, place_in}
 
 pub holds-below : (n i : ℕ) (l : List ℕ) → holds_at n l i ≡ true → i < length l
@@ -28,12 +28,6 @@ module _ (n count : ℕ) (ms S W : List ℕ) where
 
   unchanged : (rooms_hold count S W && (not (empty ms) && rooms_hold (length (ask_t n ms T)) S W)) ≡ false → Gives2 count S W (asked_in n ms count S W)
   unchanged h = rw h (record { result = refl; first = refl; second = refl })
-
-  pub asked_unfit : rooms_hold count S W ≡ false → Gives2 count S W (asked_in n ms count S W)
-  asked_unfit h = unchanged (ap (λ (t : Bool). t && (not (empty ms) && rooms_hold (length (ask_t n ms T)) S W)) h)
-
-  pub asked_nothing : empty ms ≡ true → Gives2 count S W (asked_in n ms count S W)
-  asked_nothing h = unchanged (ap (λ (t : Bool). rooms_hold count S W && (not t && rooms_hold (length (ask_t n ms T)) S W)) h ∙ and_no (rooms_hold count S W))
 
   module _ (hs : count ≤ length S) (hw : 64 * count ≤ length W) (some : empty ms ≡ false) (e : ℕ) (g : e ≡ place_of n (take count S)) where
     ls : length (take count S) ≡ count
@@ -55,17 +49,11 @@ module _ (n count : ℕ) (ms S W : List ℕ) where
     pub asked_held : (Z : List ℕ) → holds_at n (take count S) e ≡ true → Z ≡ take (e * 64) W ++ (ask_all ms (take 64 (drop (e * 64) W)) ++ drop (e * 64 + 64) W) → Gives2 count S Z (asked_in n ms count S W)
     asked_held Z h w = done count S Z hs hw (join_law n count ms S W hs hw e g Z h (inside h) w)
 
-    full : rooms_hold (count + 1) S W ≡ false → holds_at n (take count S) e ≡ false → Gives2 count S W (asked_in n ms count S W)
-    full k h =
+    pub asked_full : rooms_hold (count + 1) S W ≡ false → holds_at n (take count S) e ≡ false → Gives2 count S W (asked_in n ms count S W)
+    asked_full k h =
         unchanged (ap (λ (x : ℕ). rooms_hold count S W && (not (empty ms) && rooms_hold x S W)) (new_length n count ms S W hs hw e g h)
         ∙ ap (λ (t : Bool). rooms_hold count S W && (not (empty ms) && t)) k
         ∙ ap (λ (t : Bool). rooms_hold count S W && t) (and_no (not (empty ms))) ∙ and_no (rooms_hold count S W))
-
-    pub asked_full : length S ≤ count → holds_at n (take count S) e ≡ false → Gives2 count S W (asked_in n ms count S W)
-    asked_full k h = full (short_samples (count + 1) S W (omega arith)) h
-
-    pub asked_crowded : length W / 64 ≤ count → holds_at n (take count S) e ≡ false → Gives2 count S W (asked_in n ms count S W)
-    asked_crowded k h = full (short_words (count + 1) S W (omega arith)) h
 
     pub asked_new : (r : ℕ) (U Z : List ℕ) → holds_at n (take count S) e ≡ false → count < length S → count < length W / 64
         → Z ≡ over W (count * 64) (take (e * 64) (take (count * 64) W) ++ (ask_all ms (replicate 64 0) ++ drop (e * 64) (take (count * 64) W)))

@@ -1,6 +1,5 @@
 -- The definitions of `requested_fragments`.
 pub mod Entries
 pub mod Words
-pub mod Find
 pub mod Table
 pub mod Drain

@@ -5,7 +5,7 @@ ghost use Rattle.numbers.specs.Promise.{Gives2};
 ghost use Rattle.rising.specs.Runs.{over};
 ghost use Rattle.requested_fragments.specs.Table.{ask_all, askable, asked_in};
 
-use crate::bits;
+use crate::{bits, table};
 use number_sets::FragmentNumberSet;
 use numbers::FragmentNumber;
 
@@ -55,10 +55,7 @@ fn request_some(
         ask_block(words, a, set);
         return count;
     }
-    if samples.len() <= count {
-        return count;
-    }
-    if words.len() / FragmentNumber::WORDS <= count {
+    if !table::rooms_hold(samples, words, count + 1) {
         return count;
     }
     let end = count * FragmentNumber::WORDS;
@@ -76,13 +73,7 @@ pub fn request(
 ) -> usize
     ensures { Gives2 result samples.new words.new (asked_in n (askable set) count samples.old words.old) }
 {
-    if samples.len() < count {
-        return count;
-    }
-    if words.len() / FragmentNumber::WORDS < count {
-        return count;
-    }
-    if set.next_rank(1, FragmentNumber::TOP).is_none() {
+    if !table::rooms_hold(samples, words, count) || set.next_rank(1, FragmentNumber::TOP).is_none() {
         return count;
     }
     request_some(samples, words, count, n, set)

@@ -24,8 +24,7 @@ pub fn asks(words: &[u64], f: u64) -> bool
     if words.len() <= i {
         return false;
     }
-    let w = words[i];
-    (w >> (p % 64)) % 2 == 1
+    (words[i] >> (p % 64)) % 2 == 1
 }
 
 // Fragment f is asked for; a number that the words have no bit for changes nothing.
@@ -38,8 +37,7 @@ pub fn ask(words: &mut [u64], f: u64)
     let p = f - 1;
     let i = (p / 64) as usize;
     if i < words.len() {
-        let v = words[i] | worth(p % 64);
-        words[i] = v;
+        words[i] |= worth(p % 64);
     }
 }
 
@@ -50,8 +48,7 @@ pub fn unask(words: &mut [u64], f: u64)
     if asks(words, f) {
         let p = f - 1;
         let i = (p / 64) as usize;
-        let v = words[i] ^ worth(p % 64);
-        words[i] = v;
+        words[i] ^= worth(p % 64);
     }
 }
 
@@ -59,13 +56,7 @@ pub fn unask(words: &mut [u64], f: u64)
 pub fn any(words: &[u64]) -> bool
     ensures { result ≡ not (empty (fragments_of words.now)) }
 {
-    let mut acc: u64 = 0;
-    let mut i = 0;
-    while i < words.len() {
-        acc = acc | words[i];
-        i += 1;
-    }
-    acc != 0
+    !rising::run::all_zero(words)
 }
 
 // The smallest fragment from f on that the words ask for, bit by bit.

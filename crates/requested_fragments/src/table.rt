@@ -1,10 +1,9 @@
 // The table of requested fragments in two rooms: sample numbers, and 64 words of bits for each. Each call answers for any rooms and any count.
-ghost use Rattle.std.specs.Prelude.{◌≡◌, not, ◌++◌, ◌+◌, ◌*◌, ◌≤◌, length, take, drop};
+ghost use Rattle.std.specs.Prelude.{◌≡◌, ◌==◌, not, ◌++◌, ◌+◌, ◌*◌, ◌≤◌, length, take, drop, position};
 ghost use Rattle.sets.specs.Sets.{empty};
 ghost use Rattle.numbers.specs.Promise.{Gives2};
 ghost use Rattle.requested_fragments.specs.Words.{fragments_of, not_asking};
-ghost use Rattle.requested_fragments.specs.Table.{frag_rooms_coherent, all_hold, table_of, entries_of, mark_t, marked_in, kept_from, next_piece_of};
-ghost use Rattle.requested_fragments.specs.Find.{index_of};
+ghost use Rattle.requested_fragments.specs.Table.{frag_rooms_coherent, all_hold, table_of, entries_of, mark_t, rooms_hold, marked_in, kept_from, next_piece_of};
 
 use crate::bits;
 use numbers::FragmentNumber;
@@ -25,12 +24,10 @@ fn all_hold(words: &[u64], count: usize) -> bool
     ensures { result ≡ all_hold count words.now }
 {
     let mut held = true;
-    let mut i = 0;
-    while i < count {
+    for i in 0..count {
         let a = i * FragmentNumber::WORDS;
         let e = a + FragmentNumber::WORDS;
-        held = held & bits::any(&words[a..e]);
-        i += 1;
+        held &= bits::any(&words[a..e]);
     }
     held
 }
@@ -39,32 +36,27 @@ fn all_hold(words: &[u64], count: usize) -> bool
 pub fn coherent(samples: &[u64], words: &[u64], count: usize) -> bool
     ensures { result ≡ frag_rooms_coherent count samples.now words.now }
 {
-    if MOST_SAMPLES < samples.len() {
-        return false;
-    }
-    if words.len() != samples.len() * FragmentNumber::WORDS {
+    if MOST_SAMPLES < samples.len() || words.len() != samples.len() * FragmentNumber::WORDS {
         return false;
     }
     if !rising::run::run_coherent(samples, count, 0) {
         return false;
     }
-    let a = count * FragmentNumber::WORDS;
-    let held = all_hold(words, count);
-    held & rising::run::all_zero(&words[a..])
+    all_hold(words, count) & rising::run::all_zero(&words[count * FragmentNumber::WORDS..])
 }
 
-// The place of n, or the length where it isn't there.
-fn find(s: &[u64], n: u64) -> usize
-    ensures { result ≡ index_of n s.now }
+// The place of n.
+fn find(s: &[u64], n: u64) -> Option<usize>
+    ensures { result ≡ position (λ m. m == n) s.now }
 {
-    let mut i = 0;
-    while i < s.len() {
-        if s[i] == n {
-            return i;
-        }
-        i += 1;
-    }
-    i
+    s.iter().position(|m| *m == n)
+}
+
+// Whether `count` samples, with their words, are in the rooms.
+pub(crate) fn rooms_hold(samples: &[u64], words: &[u64], count: usize) -> bool
+    ensures { result ≡ rooms_hold count samples.now words.now }
+{
+    count <= samples.len() && count <= words.len() / FragmentNumber::WORDS
 }
 
 // Fragment f of the block at a is no more asked for; whether the block still asks for something.
@@ -82,16 +74,12 @@ fn clear_at(words: &mut [u64], a: usize, f: u64) -> bool
 pub fn mark_sent(samples: &mut [u64], words: &mut [u64], count: usize, n: u64, f: u64) -> usize
     ensures { Gives2 result samples.new words.new (marked_in n f count samples.old words.old) }
 {
-    if samples.len() < count {
+    if !rooms_hold(samples, words, count) {
         return count;
     }
-    if words.len() / FragmentNumber::WORDS < count {
+    let Some(e) = find(&samples[..count], n) else {
         return count;
-    }
-    let e = find(&samples[..count], n);
-    if count <= e {
-        return count;
-    }
+    };
     let a = e * FragmentNumber::WORDS;
     if clear_at(words, a, f) {
         return count;
@@ -105,10 +93,7 @@ pub fn mark_sent(samples: &mut [u64], words: &mut [u64], count: usize, n: u64, f
 pub fn keep_from(samples: &mut [u64], words: &mut [u64], count: usize, n: u64) -> usize
     ensures { Gives2 result samples.new words.new (kept_from n count samples.old words.old) }
 {
-    if samples.len() < count {
-        return count;
-    }
-    if words.len() / FragmentNumber::WORDS < count {
+    if !rooms_hold(samples, words, count) {
         return count;
     }
     let k = rising::run::place(&samples[..count], n);
