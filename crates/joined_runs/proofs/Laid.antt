@@ -4,10 +4,10 @@ use mathlib.Core.Path.{◌≡◌, refl, sym, ap, ◌∙◌}
 use mathlib.Core.Bool.{Bool, true, false}
 use mathlib.Core.List.{List, [], ◌++◌, append-nil, append_assoc}
 use native.Mathlib.Omega.{arith}
-use lib.Dec.{leb, eqb}
+use lib.Dec.{leb}
 use lib.ListN.{length, take, drop, replicate, length-take, length-drop, length-append, length-replicate}
 use lib.Seq.{take_all, length-take-le, take-take, drop-drop, drop_at, take-append-le, take-append-add, drop-append-le}
-use borrow.Author.Tests.{leb-true, leb-false, le-leb, le-ltb, eq-eqb, ne_eqb}
+use borrow.Author.Tests.{leb-true, leb-false, le-leb, le-ltb, ne_eqb}
 use Rattle.sets.specs.Sets.{smallest}
 use Rattle.sets.proofs.Loops.{done}
 use Rattle.numbers.specs.Number.{rank_of, negative}
@@ -17,32 +17,10 @@ use Rattle.number_sets.specs.declared.sequence_number_set.Listed.{Listed}
 use Rattle.number_sets.specs.Bits.{members}
 use Rattle.number_sets.specs.Calls.{sequence_set, joined_set, sequence_rows, set_rows, members_listed, all_listed}
 use Rattle.number_sets.proofs.Meaning.{span_window}
-use Rattle.rising.specs.Runs.{over, in_room, place_of, cut_out, opened_within, filled}
-use Rattle.rising.proofs.Rooms.{drop-take, as_well, room-same}
+use Rattle.rising.specs.Runs.{over, in_room, place_of, filled}
+use Rattle.rising.proofs.Rooms.{drop-take}
 use Rattle.rising.proofs.Inserts.{place_le}
 use Rattle.joined_runs.specs.Joined.{replaced, grown, end_in, lying, with_members, laid_in, resized, Within, Listable}
-
--- RESIZED: by a cut, or by an opening
-module _ (p q count n : ℕ) (a : List ℕ) (w : Within p q count a) where
-  lc : length (take count a) ≡ count
-  lc = length-take-le count a w.fits
-
-  pub resize_cut : n < q - p → (r : ℕ) (u : List ℕ) → Gives1 r u (in_room (cut_out (p + n) (q - p - n)) count a) → Gives1 r u (in_room (resized (length a) p q n) count a)
-  resize_cut h r u g =
-      let e : p + min (q - p) n ≡ p + n = omega arith in
-      let z : n - (q - p) ≡ 0 = omega arith in
-      let s : p + n + (q - p - n) ≡ q = omega (arith, w.rises) in
-      let la : length (take (p + n) (take count a)) ≡ p + n = length-take-le (p + n) (take count a) (omega (arith, lc, w.most)) in
-      let ld : length (drop q (take count a)) ≡ count - q = length-drop q (take count a) ∙ ap (λ (x : ℕ). x - q) lc in
-      let f : length (take (p + n) (take count a) ++ drop q (take count a)) ≤ length a = rw (length-append (take (p + n) (take count a)) (drop q (take count a)), la, ld) (omega (arith, w.most, w.fits)) in
-      as_well (resized (length a) p q n) count a w.fits (cut_out (p + n) (q - p - n)) r u g
-      (rw (e, z, s) (sym (take_all (length a) (take (p + n) (take count a) ++ drop q (take count a)) f)))
-
-  pub resize_open : q - p ≤ n → (r : ℕ) (u : List ℕ) → Gives1 r u (in_room (opened_within (length a) q (n - (q - p))) count a) → Gives1 r u (in_room (resized (length a) p q n) count a)
-  resize_open h r u g =
-      let e : q ≡ p + min (q - p) n = omega (arith, w.rises) in
-      as_well (resized (length a) p q n) count a w.fits (opened_within (length a) q (n - (q - p))) r u g
-      (ap (λ (x : ℕ). take (length a) (take x (take count a) ++ (replicate (n - (q - p)) 0 ++ drop q (take count a)))) e)
 
 -- LAID: N over what stands from p on, where T stands after the run
 module _ (m p q : ℕ) (l N T : List ℕ) (pq : p ≤ q) (ql : q ≤ length l) (lm : length l ≤ m) (t : m < p + length N → T ≡ []) where
@@ -178,12 +156,6 @@ module _ (p q count : ℕ) (a : List ℕ) (set : SequenceNumberSet) (w : Within 
 
   -- whether they are more than stood there, by what the code counted
   module _ (n : ℕ) (e : n ≡ length N) where
-    pub grown-none : n ≡ q - p → Gives1 count a (laid_in count a (grown p q N l))
-    grown-none f =
-        let z : eqb (length N) (q - p) ≡ true = eq-eqb (length N) (q - p) (sym e ∙ f) in
-        let s : smallest (length a) l ≡ l = take_all (length a) l (omega (arith, ll, w.fits)) in
-        rw (z, s) (record { result = sym ll; first = room-same count a w.fits })
-
     pub grown-some : (n ≡ q - p → ⊥) → (r : ℕ) (u : List ℕ) → Gives1 r u (laid_in count a (replaced p q N l)) → Gives1 r u (laid_in count a (grown p q N l))
     grown-some f r u g = rw (ne_eqb (length N) (q - p) (λ x. f (e ∙ x))) g
 

@@ -17,15 +17,6 @@ pub ask_all-length : (ms ws : List ℕ) → length (ask_all ms ws) ≡ length ws
 ask_all-length [] ws = refl
 ask_all-length (f ∷ fs) ws = ask_all-length fs (asking f ws) ∙ asking-length f ws
 
--- a part of 64 words comes back
-pub part_law : (W Z : List ℕ) (a : ℕ) (ms : List ℕ) → Z ≡ ask_all ms (take (a + 64 - a) (drop a W))
-    → take a W ++ (Z ++ drop (a + 64 - a) (drop a W)) ≡ take a W ++ (ask_all ms (take 64 (drop a W)) ++ drop (a + 64) W)
-part_law W Z a ms z =
-    let s : a + 64 - a ≡ 64 = omega arith in
-    ap (λ (x : List ℕ). take a W ++ (x ++ drop (a + 64 - a) (drop a W))) z
-    ∙ ap (λ (k : ℕ). take a W ++ (ask_all ms (take k (drop a W)) ++ drop k (drop a W))) s
-    ∙ ap (λ (x : List ℕ). take a W ++ (ask_all ms (take 64 (drop a W)) ++ x)) (drop-drop 64 a W)
-
 -- the run with 64 words more, as the parts that it has
 module _ (W : List ℕ) (c a : ℕ) (ha : a ≤ c) (hc : c + 64 ≤ length W) where
   long : (b : List ℕ) → length b ≡ 64 → over W c (take a (take c W) ++ (b ++ drop a (take c W))) ≡ take a W ++ (b ++ (drop a (take c W) ++ drop (c + 64) W))

@@ -7,7 +7,7 @@ use lib.Dec.{eqb}
 use lib.ListN.{length, take, drop}
 use lib.Seq.{take-add, drop-drop}
 use native.Mathlib.Omega.{arith}
-use Rattle.sets.proofs.Bools.{and_assoc, and_yes}
+use Rattle.sets.proofs.Bools.{and_assoc}
 use Rattle.sets.specs.Sets.{empty}
 use Rattle.requested_fragments.specs.Words.{fragments_of, not_asking}
 use Rattle.rising.proofs.Rooms.{drop-take}
@@ -132,9 +132,3 @@ hold_more ws count i good h g =
     ∙ ap (λ (x : List ℕ). good && (not (empty (fragments_of (take 64 (drop (64 * i) ws)))) && all_hold (count - (i + 1)) x)) d
     ∙ ap (λ (x : List ℕ). good && (not (empty (fragments_of x)) && all_hold (count - (i + 1)) (drop (64 * (i + 1)) ws))) (sym (ap (λ (k : ℕ). take k (drop (i * 64) ws)) s ∙ ap (λ (k : ℕ). take 64 (drop k ws)) t))
     ∙ sym (and_assoc good (not (empty (fragments_of (take (i * 64 + 64 - i * 64) (drop (i * 64) ws))))) (all_hold (count - (i + 1)) (drop (64 * (i + 1)) ws)))
-
-pub hold_end : (ws : List ℕ) (count i : ℕ) (good : Bool) → count ≤ i → all_hold count ws ≡ (good && all_hold (count - i) (drop (64 * i) ws)) → good ≡ all_hold count ws
-hold_end ws count i good h g = let e : count - i ≡ 0 = omega arith in sym (g ∙ ap (λ (k : ℕ). good && all_hold k (drop (64 * i) ws)) e ∙ and_yes good)
-
-pub hold_start : (ws : List ℕ) (count : ℕ) → all_hold count ws ≡ (true && all_hold (count - 0) (drop (64 * 0) ws))
-hold_start ws count = let e : count ≡ count - 0 = omega arith in let z : 0 ≡ 64 * 0 = omega arith in ap (λ (k : ℕ). all_hold k ws) e ∙ ap (λ (k : ℕ). all_hold (count - 0) (drop k ws)) z

@@ -1,12 +1,10 @@
 -- One bit of a word: what a set bit and a turned bit leave. Assumes nothing.
-use Prim.Native.Nat.{ℕ, ◌*◌, ◌/◌, ◌%◌, ◌^◌, ◌<◌}
+use Prim.Native.Nat.{ℕ, ◌/◌, ◌%◌, ◌^◌}
 use mathlib.Core.Path.{◌≡◌, refl, ap, ◌∙◌}
 use mathlib.Core.Bool.{Bool, true, false, not, cond, ◌&&◌, ◌||◌}
 use mathlib.Core.Logic.{◌⊎◌, inl, inr}
 use lib.Dec.{eqb}
 use lib.Bits.{bit_or, bit_xor, xor_shr, xor_mod}
-use lib.Pow.{shl_exact}
-use native.Mathlib.Omega.{arith}
 use borrow.Author.Tests.{eqb-true}
 use Rattle.number_sets.proofs.Join.{one_bit, two, or_digit}
 use Rattle.requested_fragments.specs.Words.{low_bit_of}
@@ -28,7 +26,3 @@ xor_bit w k j h =
         rw e refl
     go false f (inl e) = rw e refl
     go false f (inr e) = rw e refl
-
--- what `1 << k` gives
-pub one_shl : (k : ℕ) → k < 64 → (1 * 2 ^ k) % 2 ^ 64 ≡ 2 ^ k
-one_shl k h = shl_exact 1 k 64 (omega arith) (omega arith) ∙ omega arith

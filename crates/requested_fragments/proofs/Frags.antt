@@ -53,13 +53,6 @@ pub frag_of : (ws : List ℕ) (f : ℕ) → 1 ≤ f → has (fragments_of ws) f 
 frag_of ws f h = let e : f ≡ suc (f - 1) = omega arith in ap (has (fragments_of ws)) e ∙ frag_at ws (f - 1)
 
 -- ---- two runs that ask alike
-pub same_bits : (ws vs : List ℕ) → ((p : ℕ) → low_bit_at ws p ≡ low_bit_at vs p) → fragments_of ws ≡ fragments_of vs
-same_bits ws vs h = ext 1 1 (fragments_of ws) (fragments_of vs) (frag-rises ws) (frag-rises vs) go
-  where
-    go : (n : ℕ) → has (fragments_of ws) n ≡ has (fragments_of vs) n
-    go zero = frag-zero ws ∙ sym (frag-zero vs)
-    go (suc p) = frag_at ws p ∙ h p ∙ sym (frag_at vs p)
-
 eqb-suc : (q p : ℕ) → eqb (suc q) (suc p) ≡ eqb q p
 eqb-suc q p = eqb_same (suc q) (suc p) q p (λ z. omega arith) (λ z. omega arith)
 
@@ -302,13 +295,6 @@ pub record Searching (f : ℕ) (ws : List ℕ) (n : ℕ) : Type 0 where
   pub none : (m : ℕ) → f ≤ m → m < n → has (fragments_of ws) m ≡ false
 
 module _ (f : ℕ) (ws : List ℕ) (n : ℕ) (h : Searching f ws n) where
-  pub search_more : has (fragments_of ws) n ≡ false → Searching f ws (n + 1)
-  search_more e = record { from = omega (arith, h.from); none = λ m a b. go m a b (decide (eqb m n)) }
-    where
-      go : (m : ℕ) → f ≤ m → m < n + 1 → (eqb m n ≡ true) ⊎ (eqb m n ≡ false) → has (fragments_of ws) m ≡ false
-      go m a b (inl z) = ap (has (fragments_of ws)) (eqb-true m n z) ∙ e
-      go m a b (inr z) = h.none m a (omega (arith, eqb-false m n z))
-
   unheld : (m : ℕ) → (f ≤ m → has (fragments_of ws) m ≡ false) → has (only (leb f) (fragments_of ws)) m ≡ false
   unheld m k = has-only (leb f) (fragments_of ws) m ∙ go (decide (leb f m))
     where
@@ -331,9 +317,6 @@ module _ (f : ℕ) (ws : List ℕ) (n : ℕ) (h : Searching f ws n) where
       go : (m : ℕ) → f ≤ m → (ltb m n ≡ true) ⊎ (ltb m n ≡ false) → has (fragments_of ws) m ≡ false
       go m a (inl z) = h.none m a (ltb-true m n z)
       go m a (inr z) = high m (omega (arith, ltb-false m n z))
-
-pub search_start : (f : ℕ) (ws : List ℕ) → Searching f ws f
-search_start f ws = record { from = omega arith; none = λ m a b. absurd (omega arith) }
 
 pub asking-length : (f : ℕ) (ws : List ℕ) → length (asking f ws) ≡ length ws
 asking-length f ws = go (eqb f 0)

@@ -23,9 +23,6 @@ use Rattle.requested_fragments.proofs.Meaning.{Full}
 use Rattle.requested_fragments.proofs.Form.{Fit, hold_t, coherent_fit, rising_tail, rising_weak, form_again}
 
 -- ---- in the rooms
-pub kept_same : (n count : ℕ) (S W : List ℕ) → rooms_hold count S W ≡ false → Gives2 count S W (kept_from n count S W)
-kept_same n count S W h = rw h (record { result = refl; first = refl; second = refl })
-
 -- where there is none, none goes
 pub kept-none : (n count : ℕ) (S W : List ℕ) → count ≡ 0 → Gives2 count S W (kept_from n count S W)
 kept-none n count S W z = subst (λ (c : ℕ). Gives2 c S W (kept_from n c S W)) (sym z) (rw (fit 0 S W (omega arith) (omega arith)) (record { result = refl; first = refl; second = refl }))

@@ -1,23 +1,21 @@
 -- The calls on the table, way by way. Assumes nothing.
-use Prim.Native.Nat.{ℕ, zero, suc, ◌-◌, ◌*◌, ◌/◌, ◌≤◌, ◌<◌}
-use mathlib.Core.Path.{◌≡◌, refl, ap, ◌∙◌}
-use mathlib.Core.Bool.{Bool, true, false, ◌&&◌}
+use Prim.Native.Nat.{ℕ, zero, suc, ◌*◌, ◌≤◌}
+use mathlib.Core.Path.{◌≡◌, refl, ◌∙◌}
+use mathlib.Core.Bool.{true, false}
 use mathlib.Core.List.{List, [], ◌∷◌}
 use native.Mathlib.Omega.{arith}
 use lib.Dec.{eqb, leb}
-use lib.ListN.{length, take, drop, length-drop}
-use lib.Seq.{take_all}
-use borrow.Author.Tests.{leb-true, le-leb, lt-leb, eq-eqb, ne_eqb}
-use Rattle.sets.proofs.Bools.{and_no, and_left, and_right}
+use lib.ListN.{length, take}
+use borrow.Author.Tests.{leb-true, le-leb, ne_eqb}
+use Rattle.sets.proofs.Bools.{and_left, and_right}
 use Rattle.numbers.specs.Promise.{Gives1, Gives2}
-use Rattle.rising.specs.Runs.{zeros, run_coherent, over, in_room}
-use Rattle.rising.proofs.Meaning.{run_is}
+use Rattle.rising.specs.Runs.{over, in_room}
 use Rattle.std.specs.Prelude.{Some, slice_get}
 use Rattle.sets.specs.Sets.{From, only, first_or}
 use Rattle.sets.proofs.Has.{From-only}
 use Rattle.requested_fragments.proofs.Frags.{frag-rises}
 use Rattle.requested_fragments.specs.Words.{fragments_of, next_in}
-use Rattle.requested_fragments.specs.Table.{table_of, entries_of, all_hold, frag_rooms_coherent, samples_in, words_in, mark_t, rooms_hold, marked_in, next_piece_of}
+use Rattle.requested_fragments.specs.Table.{table_of, entries_of, samples_in, words_in, mark_t, rooms_hold, marked_in, next_piece_of}
 
 -- what a cut leaves, where the run is in the room
 pub in_run : (f : List ℕ → List ℕ) (c : ℕ) (a : List ℕ) (r : ℕ) (u : List ℕ) → c ≤ length a → Gives1 r u (in_room f c a) → (r ≡ length (f (take c a))) × (u ≡ over a c (f (take c a)))
@@ -25,48 +23,14 @@ in_run f c a r u h g =
     let t : leb c (length a) ≡ true = le-leb c (length a) h in
     (g.result ∙ rw t refl, g.first ∙ rw t refl)
 
--- ---- the check
-module _ (count : ℕ) (S W : List ℕ) where
-  pub check_samples : 16 < length S → false ≡ frag_rooms_coherent count S W
-  check_samples h = rw (lt-leb (length S) 16 h)
-
-  module _ (ls : length S ≤ 16) where
-    pub check_words : (length W ≡ length S * 64 → ⊥) → false ≡ frag_rooms_coherent count S W
-    check_words h = rw (le-leb (length S) 16 ls, ne_eqb (length W) (64 * length S) (λ e. h (omega arith)))
-
-    module _ (lw : length W ≡ length S * 64) where
-      long : eqb (length W) (64 * length S) ≡ true
-      long = eq-eqb (length W) (64 * length S) (omega arith)
-
-      pub check_run : run_coherent 0 count S ≡ false → false ≡ frag_rooms_coherent count S W
-      check_run h = rw (le-leb (length S) 16 ls, long, h)
-
-      pub run-few : run_coherent 0 count S ≡ true → count ≤ length S
-      run-few h = (run_is 0 count S h).fits
-
-      pub check_rest : (a b : Bool) → run_coherent 0 count S ≡ true → a ≡ all_hold count W → b ≡ zeros (take (length W - count * 64) (drop (count * 64) W)) → (a && b) ≡ frag_rooms_coherent count S W
-      check_rest a b h p q =
-          let t : count * 64 ≡ 64 * count = omega arith in
-          let e : take (length W - count * 64) (drop (count * 64) W) ≡ drop (count * 64) W = take_all (length W - count * 64) (drop (count * 64) W) (rw length-drop (omega arith)) in
-          rw (le-leb (length S) 16 ls, long, h) (ap (λ (x : Bool). x && b) p ∙ ap (λ (x : Bool). all_hold count W && x) (q ∙ ap zeros e ∙ ap (λ (k : ℕ). zeros (drop k W)) t))
-
 -- ---- marking
 module _ (count : ℕ) (S W : List ℕ) where
   pub fit : count ≤ length S → 64 * count ≤ length W → rooms_hold count S W ≡ true
   fit hs hw = rw (le-leb count (length S) hs, le-leb (64 * count) (length W) hw) refl
 
-  pub short_samples : length S < count → rooms_hold count S W ≡ false
-  short_samples h = rw (lt-leb count (length S) h) refl
-
-  pub short_words : length W / 64 < count → rooms_hold count S W ≡ false
-  short_words h = rw (lt-leb (64 * count) (length W) (omega arith)) (and_no (leb count (length S)))
-
   pub fits : rooms_hold count S W ≡ true → (count ≤ length S) × (64 * count ≤ length W)
   fits h =
       (leb-true count (length S) (and_left (leb count (length S)) (leb (64 * count) (length W)) h), leb-true (64 * count) (length W) (and_right (leb count (length S)) (leb (64 * count) (length W)) h))
-
-  pub marked-same : (n f : ℕ) → rooms_hold count S W ≡ false → Gives2 count S W (marked_in n f count S W)
-  marked-same n f h = rw h (record { result = refl; first = refl; second = refl })
 
   pub marked-done : (n f r : ℕ) (U Z : List ℕ) → count ≤ length S → 64 * count ≤ length W
       → (r ≡ length (mark_t n f (table_of count S W))) × (U ≡ over S count (samples_in (mark_t n f (table_of count S W)))) × (Z ≡ over W (64 * count) (words_in (mark_t n f (table_of count S W))))

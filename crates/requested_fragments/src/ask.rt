@@ -73,7 +73,9 @@ pub fn request(
 ) -> usize
     ensures { Gives2 result samples.new words.new (asked_in n (askable set) count samples.old words.old) }
 {
-    if !table::rooms_hold(samples, words, count) || set.next_rank(1, FragmentNumber::TOP).is_none() {
+    if !table::rooms_hold(samples, words, count)
+        || set.next_rank(1, FragmentNumber::TOP).is_none()
+    {
         return count;
     }
     request_some(samples, words, count, n, set)

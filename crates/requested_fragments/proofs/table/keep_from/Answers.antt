@@ -1,8 +1,8 @@
 -- `keep_from` meets its contract. Assumes nothing.
-use Prim.Native.Nat.{◌≤◌, ◌*◌}
+use Prim.Native.Nat.{◌*◌}
 use mathlib.Core.Path.{sym, ◌∙◌}
 use native.Mathlib.Omega.{arith}
-use lib.ListN.{length, take}
+use lib.ListN.{take}
 use lib.Seq.{length-take-le}
 use Rattle.rising.specs.Runs.{cut_out}
 use Rattle.rising.proofs.Inserts.{place_le}
