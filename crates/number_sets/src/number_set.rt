@@ -59,11 +59,11 @@ fn kept(w: u32, a: usize, e: usize) -> u32
     (low >> (32 - e)) << (32 - e)
 }
 
-// How many of the words, from the first on, hold the bits up to the one at `end`.
+// How many of the words, from the first on, hold the bits before the one at `end`.
 fn words_to(end: usize) -> usize
-    ensures { result ≡ min 8 (end / 32 + 1) }
+    ensures { (result ≡ (min end 256 + 31) / 32) × (result ≤ 8) }
 {
-    (end / 32 + 1).min(8)
+    (end.min(256) + 31) / 32
 }
 
 // A word with the bit at place i set.
@@ -100,13 +100,14 @@ impl NumberSet {
         ensures { result ≡ next_bit self.now.words self.now.count from }
     {
         let count = self.count as usize;
+        let mut place = from;
         for j in from / 32..words_to(count) {
-            let place = from.max(32 * j);
             let left = self.words[j] << (place % 32);
             if left != 0 {
                 let at = place + left.leading_zeros() as usize;
                 return (at < count).then_some(at);
             }
+            place = 32 * (j + 1);
         }
         None
     }

@@ -19,4 +19,4 @@ loop-j-preserved c =
 pub returns : goal.returns
 returns c =
     let z = c.args.self.now in
-    sized_stop z.words z.count _ _ c.loop-j.j (omega arith) (omega arith) c.words_to-j-end.ensures c.loop-j-test.false c.loop-j.invariant.1 ∙ size_is z.count z.base z.words
+    sized_stop z.words z.count _ _ c.loop-j.j (omega arith) (omega arith) c.words_to-j-end.ensures.0 c.loop-j-test.false c.loop-j.invariant.1 ∙ size_is z.count z.base z.words
