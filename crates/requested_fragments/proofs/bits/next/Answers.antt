@@ -3,7 +3,7 @@ use Prim.Native.Nat.{ℕ}
 use mathlib.Core.Path.{ap, ◌∙◌}
 use lib.ListN.{take}
 use Rattle.requested_fragments.specs.Words.{next_in}
-use Rattle.rising.proofs.Scans.{take_min}
+use Rattle.std.proofs.lemmas.List.{take_min}
 use Rattle.requested_fragments.proofs.bits.next.Goals as goal
 
 pub returns : goal.returns
