@@ -69,6 +69,7 @@ pub fn remove(s: &mut [u64], count: usize, n: u64) -> usize
 }
 
 // The run from n on.
+#[inline]
 pub fn keep_from(s: &mut [u64], count: usize, n: u64) -> usize
     ensures { Gives1 result s.new (in_room (from_on n) count s.old) }
 {
@@ -110,6 +111,7 @@ pub fn insert(s: &mut [u64], count: usize, n: u64) -> usize
 }
 
 // n joins the run. Where there is no room the smallest goes.
+#[inline(never)]
 #[tactic(auto, using(crate::proofs::Inserts::place_le))]
 pub fn insert_newest(s: &mut [u64], count: usize, n: u64) -> usize
     ensures { Gives1 result s.new (in_room (newest (length s.old) n) count s.old) }
@@ -137,6 +139,7 @@ fn last_of(s: &[u64], count: usize) -> u64
 }
 
 // n joins the run; where there is no room the smallest goes. A new number is above all that are held, and stands after them: nothing is searched.
+#[inline]
 pub fn join_newest(s: &mut [u64], count: usize, n: u64) -> usize
     ensures { Gives1 result s.new (run_with n count s.old) }
 {
