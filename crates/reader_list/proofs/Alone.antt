@@ -1,7 +1,7 @@
 -- Slot by slot, whether each is free or none before it has its id: so the ids are all different. Assumes nothing.
 use Prim.Native.Nat.{ℕ, ◌+◌, ◌*◌, ◌/◌, ◌%◌, ◌^◌, max}
 use mathlib.Core.Path.{◌≡◌, refl, sym, ap, ◌∙◌}
-use mathlib.Core.Bool.{Bool, true, false, not, ◌&&◌, ◌||◌, false≢true}
+use mathlib.Core.Bool.{Bool, true, false, not, ◌&&◌, ◌||◌}
 use mathlib.Core.List.{List, [], ◌∷◌, ◌++◌}
 use native.Mathlib.Omega.{arith}
 use lib.Arith.{bin_ind}
@@ -45,9 +45,6 @@ id_bit i = 1 * 2 ^ (i % 64) % 18446744073709551616
 pub record Known (hs : List ReaderHead) (low : ℕ) (all : Bool) : Type 0 where
   pub has_bit : (i : ℕ) → is_there i (readers hs) ≡ true → bit_or low (id_bit i) ≡ low
   pub all_is : all ≡ different (readers hs)
-
-none_known : Known [] 0 true
-none_known = record { has_bit = λ i e. absurd (false≢true e); all_is = refl }
 
 -- ---- one slot more
 there_more : (i : ℕ) (hs : List ReaderHead) (h : ReaderHead) → is_there i (readers (hs ++ h ∷ [])) ≡ (is_there i (readers hs) || eqb h.id i)

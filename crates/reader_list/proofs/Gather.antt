@@ -38,11 +38,6 @@ place-there i (h ∷ hs) = go (eqb h.id i) (place-there i hs)
     go false e = less_suc (place_of_id i hs) (length hs) ∙ e
 
 -- ---- the frontier of two, and of three
-pub meet-is : (a b : ℕ) → (a ≡ 0 → ⊥) → 1 ≤ b → meet a b ≡ min a b
-meet-is zero b n h = absurd (n refl)
-meet-is (suc a) zero n h = absurd (omega arith)
-meet-is (suc a) (suc b) n h = refl
-
 pub meet_assoc : (a b c : ℕ) → meet (meet a b) c ≡ meet a (meet b c)
 meet_assoc zero b c = refl
 meet_assoc (suc a) zero c = refl

@@ -9,7 +9,7 @@ use crate::heads::{AckedFrontier, ReaderHead};
 use crate::looks::{is_coherent, smallest};
 use numbers::{Answer, SequenceNumber};
 
-// A match: the reader's id, whether it is reliable, and its cap of unsent numbers.
+// A match, as C sees it: the reader's id, whether it is reliable, and its cap of unsent numbers.
 #[repr(C)]
 #[derive(Clone, Copy)]
 pub struct Match {
@@ -22,7 +22,7 @@ impl Match {
     pub const MOST_CAP: u64 = 1024;
 }
 
-// A reader's id, and the first number that it has not acknowledged.
+// A reader's id, and the first number that it has not acknowledged, as C sees them.
 #[repr(C)]
 #[derive(Clone, Copy)]
 pub struct Acked {

@@ -5,7 +5,7 @@ ghost use Rattle.reader_list.specs.Ahead.{reader_slot, found_slot, match_slot, d
 use crate::calls::{Acked, Match};
 use crate::heads::{AckedFrontier, ReaderHead};
 use crate::looks::{is_coherent, joined, place_of, smallest_of_others};
-use numbers::{Answer, Refusal, SequenceNumber};
+use numbers::{Answer, Refusal};
 
 // A place in the list, and the head that stands there or is to stand there.
 #[derive(Clone, Copy)]
@@ -28,7 +28,7 @@ fn reader(list: &[ReaderHead], id: u64) -> Result<Slot, Answer>
 }
 
 // The slot of a reader.
-pub fn find(list: &[ReaderHead], id: u64) -> Result<Slot, Answer>
+pub(crate) fn find(list: &[ReaderHead], id: u64) -> Result<Slot, Answer>
     ensures { result ≡ found_slot list.now id }
 {
     if !is_coherent(list) {
@@ -56,7 +56,7 @@ pub fn matching(list: &[ReaderHead], m: Match) -> Result<Slot, Answer>
     let head = ReaderHead {
         id: m.id,
         reliable: m.reliable,
-        acked: SequenceNumber(0),
+        ..ReaderHead::FREE
     };
     Ok(Slot { place, head })
 }
@@ -73,7 +73,7 @@ pub fn departing(list: &[ReaderHead], id: u64) -> Result<Slot, Answer>
 }
 
 // The reader's slot with another acked.
-pub fn acking(list: &[ReaderHead], a: Acked) -> Result<Slot, Answer>
+pub(crate) fn acking(list: &[ReaderHead], a: Acked) -> Result<Slot, Answer>
     ensures { result ≡ ack_slot list.now a }
 {
     if !is_coherent(list) {

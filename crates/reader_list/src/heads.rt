@@ -5,7 +5,7 @@ ghost use Rattle.reader_list.specs.Slots.{head_view, frontier_of, frontier_at};
 
 use numbers::SequenceNumber;
 
-// A free slot is all zeros: its id is 0.
+// A slot, as C sees it. A free one is all zeros: its id is 0.
 #[repr(C)]
 #[derive(Clone, Copy)]
 pub struct ReaderHead {

@@ -1,18 +1,17 @@
 -- A NACK_FRAG taken by reader id: one that is refused changes nothing; one that is done found the reader, and leaves its record as the reader's own call does.
 -- Assumes nothing.
 use Prim.Native.Nat.{ℕ}
-use mathlib.Core.Path.{◌≡◌, refl, sym, ap, subst, ◌∙◌}
+use mathlib.Core.Path.{◌≡◌, refl, ap, subst, ◌∙◌}
 use mathlib.Core.Bool.{Bool, true, false, not, cond, ◌&&◌}
 use mathlib.Core.List.{List, ◌∷◌}
 use borrow.Author.Tests.{eqb-true, eqb-false}
 use Rattle.numbers.specs.Number.{rank_of}
 use Rattle.numbers.specs.Refusals.{row, answer_of, is_done, Rows}
-use Rattle.numbers.specs.Answers.{earlier}
-use Rattle.numbers.specs.Promise.{Left2, Gives2}
+use Rattle.numbers.specs.Promise.{Left2}
 use Rattle.numbers.specs.declared.answer.Answer.{Answer}
 use Rattle.numbers.specs.declared.sequence_number.SequenceNumber.{SequenceNumber}
-use Rattle.numbers.proofs.Refused.{is_refused, gives2}
-use Rattle.numbers.proofs.Answered.{unless-answer, right_done, answer_refused, answer-done}
+use Rattle.numbers.proofs.Refused.{is_refused}
+use Rattle.numbers.proofs.Answered.{unless-answer, right_done}
 use Rattle.number_sets.specs.declared.fragment_number_set.FragmentNumberSet.{FragmentNumberSet}
 use Rattle.number_sets.specs.Calls.{fragment_set}
 use Rattle.rtps_reader_proxy.specs.declared.proxy.ReaderProxy.{ReaderProxy}
@@ -20,9 +19,8 @@ use Rattle.rtps_reader_proxy.specs.declared.proxy.Changed.{Changed}
 use Rattle.rtps_reader_proxy.specs.Record.{room_for}
 use Rattle.rtps_reader_proxy.specs.Fragments.{frags_coherent, by_frags, request_rows, frags_requested_of}
 use Rattle.reader_list.specs.declared.heads.ReaderHead.{ReaderHead}
-use Rattle.reader_list.specs.declared.calls.Found.{Found}
 use Rattle.reader_list.specs.Slots.{found_of}
-use Rattle.writer_steps.specs.Frags.{not_asked, nack_frag_of, nack_frag_step}
+use Rattle.writer_steps.specs.Frags.{not_asked, nack_frag_step}
 
 module _ (n : SequenceNumber) (set : FragmentNumberSet) (h : ReaderProxy) (samples words : List ℕ) where
   -- THE READER'S OWN CALL
@@ -44,22 +42,6 @@ module _ (n : SequenceNumber) (set : FragmentNumberSet) (h : ReaderProxy) (sampl
 
   own_kept : (asked.result.answer.number ≡ 0 → ⊥) → Kept asked
   own_kept z = subst Kept (is_refused ask_rows (answer_of ask_rows) refl as_it_was _ (λ y. z (ap (λ (x : Answer). x.number) own_answer_lem ∙ y))) (refl, (refl, refl))
-
-  -- THE STEP, from what its calls return
-  module _ (found : Found) where
-    pub not_there : (found.answer.number ≡ 0 → ⊥) → (own : Answer) → own ≡ answer_of ask_rows → (a : Answer) → a ≡ earlier own found.answer
-        → Gives2 (record { answer = a; proxy = h }) samples words (nack_frag_of found n set h samples words)
-    not_there z own q a e =
-        gives2 (record { answer = a; proxy = h }) samples words (not_asked n set h samples words found.answer) (nack_frag_of found n set h samples words)
-        (answer_refused found.answer found.answer refl (not_asked n set h samples words) asked z)
-        (ap (λ (x : Answer). record { answer = x; proxy = h }) (e ∙ ap (λ (x : Answer). earlier x found.answer) (q ∙ sym own_answer_lem))) refl refl
-
-    pub is-there : found.answer.number ≡ 0 → (r : Changed) (s t : List ℕ) → Gives2 r s t asked → Gives2 r s t (nack_frag_of found n set h samples words)
-    is-there z r s t g = subst (Gives2 r s t) (answer-done found.answer found.answer refl (not_asked n set h samples words) asked z) g
-
--- what is decided, with the parameters as the call has them
-abbrev pub settled : Found → ReaderProxy → List ℕ → List ℕ → SequenceNumber → FragmentNumberSet → Left2 Changed (List ℕ) (List ℕ)
-settled found h samples words n set = nack_frag_of found n set h samples words
 
 -- THE STEP
 module _ (hs : List ReaderHead) (i : ℕ) (n : SequenceNumber) (set : FragmentNumberSet) (h : ReaderProxy) (samples words : List ℕ) where

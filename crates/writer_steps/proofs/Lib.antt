@@ -1,5 +1,4 @@
 -- Laws that belong to no one function.
-pub mod Sends
 pub mod Repeats
 pub mod Lies
 pub mod Settles

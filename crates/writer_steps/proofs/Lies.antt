@@ -13,7 +13,7 @@ use Rattle.sets.specs.Sets.{has, empty, without}
 use Rattle.sets.proofs.Loops.{upto, upto_more}
 use Rattle.numbers.specs.Capacities.{top_number}
 use Rattle.numbers.specs.Number.{rank_of, number_at}
-use Rattle.numbers.specs.Refusals.{answer_at, row, answer_of, unless, done, is_done}
+use Rattle.numbers.specs.Refusals.{row, answer_of, unless, done, is_done}
 use Rattle.numbers.specs.Promise.{Left2, Left4, Gives2, Gives4}
 use Rattle.numbers.specs.declared.answer.Answer.{Answer}
 use Rattle.numbers.proofs.Ranks.{rank_back}
@@ -112,12 +112,6 @@ module _ (f : WriterSendBuffer) (room : ℕ) (lens : List ℕ) (h : ReaderProxy)
 
   abbrev many_by : Bool → Bool → Bool → Left4 SentMany (List ℕ) (List ℕ) (List ℕ) (List ℕ)
   many_by t v n = unless (row 1 refl (not (t && v)) ∷ row 14 refl n ∷ []) refused_by (many_left f room lens (sending k f h u) ns ss ls)
-
-  -- the store isn't coherent
-  pub many_unsound : (a : Answer) → a ≡ answer_at 1 → store_coherent f room lens ≡ false → Gives4 (record { answer = a; count = 0; proxy = h }) u ns ss ls (send_many_of f room lens h u ns ss ls)
-  many_unsound a q e =
-      subst (Gives4 (record { answer = a; count = 0; proxy = h }) u ns ss ls) (sym (ap (λ (t : Bool). many_by t (unsent_coherent h u) (empty held)) e))
-      (record { result = ap (λ (x : Answer). record { answer = x; count = 0; proxy = h }) q; first = refl; second = refl; third = refl; fourth = refl })
 
   module _ (ok : store_coherent f room lens ≡ true) (t : Taken) (u' o : List ℕ) (g : Gives2 t u' o (taken_of h u (take k ns))) (a : Answer) (ea : a ≡ emptied (is_done t.answer) (eqb h.unsent_count 0)) where
     abbrev taken_by : Bool → Left2 Taken (List ℕ) (List ℕ)

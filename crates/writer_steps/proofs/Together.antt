@@ -76,9 +76,6 @@ module _ (hs : List ReaderHead) where
   abbrev the_front : Front
   the_front = record { answer = done; frontier = frontier_at (frontier (readers hs)) }
 
-  front_answer : (front_of hs).answer ≡ answer_of (slots.list_rows false (list_coherent hs) false false false)
-  front_answer = unless-answer (λ (o : Front). o.answer) (slots.list_rows false (list_coherent hs) false false false) no_front the_front (λ x. refl) refl
-
   front_done : (front_of hs).answer.number ≡ 0 → front_of hs ≡ the_front
   front_done z = unless-done (λ (o : Front). o.answer) (slots.list_rows false (list_coherent hs) false false false) no_front the_front (λ x. refl) refl z
 

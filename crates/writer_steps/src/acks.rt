@@ -13,7 +13,7 @@ use reader_list::{Found, ReaderHead};
 use rtps_reader_proxy::ReaderProxy;
 use writer_send_buffer::{Told, WriterSendBuffer};
 
-// The answer and the wake, the requests left out, and the reader's proxy as it then is.
+// The answer and the wake, the requests left out, and the reader's proxy as it then is, as C sees it.
 #[repr(C)]
 #[derive(Clone, Copy)]
 pub struct AckTold {

@@ -8,7 +8,7 @@ use numbers::{Answer, SequenceNumber};
 use rtps_reader_proxy::ReaderProxy;
 use writer_send_buffer::{Located, WriterSendBuffer};
 
-// How many numbers were sent, and the reader's proxy as it then is.
+// How many numbers were sent, and the reader's proxy as it then is, as C sees it.
 #[repr(C)]
 #[derive(Clone, Copy)]
 pub struct SentMany {
@@ -18,8 +18,8 @@ pub struct SentMany {
 }
 
 impl SentMany {
-    // The start of what goes as a gap.
-    pub const NO_START: u64 = 18446744073709551615;
+    // The start of what goes as a gap, in a room of numbers that C lends.
+    pub const NO_START: u64 = u64::MAX;
 }
 
 fn start_of(at: Located) -> u64
@@ -32,7 +32,7 @@ fn start_of(at: Located) -> u64
     }
 }
 
-// Where each of the numbers lies.
+// Where each of the numbers lies. Three rooms of numbers side by side: so C lends them.
 fn places(
     flow: WriterSendBuffer,
     lens: &[u64],

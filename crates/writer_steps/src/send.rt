@@ -8,7 +8,7 @@ use numbers::{Answer, SequenceNumber};
 use rtps_reader_proxy::ReaderProxy;
 use writer_send_buffer::WriterSendBuffer;
 
-// The number sent, whether as data (else as a gap), and the reader's proxy as it then is.
+// The number sent, whether as data (else as a gap), and the reader's proxy as it then is, as C sees it.
 #[repr(C)]
 #[derive(Clone, Copy)]
 pub struct Sent {
@@ -28,7 +28,7 @@ pub fn send_first(flow: WriterSendBuffer, proxy: ReaderProxy, unsent: &mut [u64]
     if !answer.is_done() {
         return Sent {
             answer,
-            number: SequenceNumber::from_rank(0),
+            number: SequenceNumber::default(),
             data: false,
             proxy,
         };
