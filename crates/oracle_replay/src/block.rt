@@ -19,12 +19,11 @@ pub(crate) fn replay_calls<R: Replayed + Drop>(
     let mut same = 0;
     for i in 0..calls {
         let line = lines.call();
-        if same == i {
-            if let Some(mut line) = line {
-                if record.replay(&mut line).is_some() {
-                    same += 1;
-                }
-            }
+        if same == i
+            && let Some(mut line) = line
+            && record.replay(&mut line).is_some()
+        {
+            same += 1;
         }
     }
     same
