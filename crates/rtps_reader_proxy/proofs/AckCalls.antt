@@ -4,20 +4,20 @@ use mathlib.Core.Path.{◌≡◌, refl, sym, ap, ◌∙◌}
 use mathlib.Core.Bool.{Bool, true, false, not, cond, ◌&&◌, ◌||◌, true≢false}
 use mathlib.Core.List.{List}
 use native.Mathlib.Omega.{arith}
-use lib.Dec.{leb, eqb}
+use lib.Dec.{leb}
 use lib.ListN.{length, take, length-take}
 use lib.Seq.{length-take-le}
-use borrow.Author.Tests.{eqb-true, lt-ltb, le-ltb, ltb-false, not-false}
+use borrow.Author.Tests.{lt-ltb, le-ltb, ltb-false, not-false}
 use Rattle.sets.specs.Sets.{From, only, between, union, smallest}
 use Rattle.sets.proofs.Bools.{and_left, and_right}
 use Rattle.sets.proofs.Has.{From_weak}
 use Rattle.numbers.specs.Capacities.{top_number}
 use Rattle.numbers.specs.Number.{rank_of, negative, in_range}
-use Rattle.numbers.specs.Refusals.{numbers, first_row, answer_at, answer_of, done}
-use Rattle.numbers.specs.Promise.{Left2, Gives1, Gives2}
+use Rattle.numbers.specs.Refusals.{answer_of}
+use Rattle.numbers.specs.Promise.{Gives1, Gives2}
 use Rattle.numbers.specs.declared.answer.Answer.{Answer}
 use Rattle.numbers.specs.declared.sequence_number.SequenceNumber.{SequenceNumber}
-use Rattle.numbers.specs.Answers.{earlier, in_turn, answered}
+use Rattle.numbers.specs.Answers.{earlier, in_turn}
 use Rattle.numbers.proofs.Refused.{clear}
 use Rattle.numbers.proofs.Answered.{left-done, turn-done}
 use Rattle.numbers.proofs.Ranks.{in_range_lem}
@@ -34,7 +34,7 @@ use Rattle.rtps_reader_proxy.specs.declared.proxy.ReaderProxy.{ReaderProxy}
 use Rattle.rtps_reader_proxy.specs.declared.acks.AckNacked.{AckNacked}
 use Rattle.rtps_reader_proxy.specs.Reader.{base_of, is_late, is_ahead, staying, wanted, acked_after, left_out_of}
 use Rattle.rtps_reader_proxy.specs.Record.{proxy_coherent, unsent_coherent, gaps_coherent, gap_floor}
-use Rattle.rtps_reader_proxy.specs.Acks.{ack_rows, ack_fits, ack_nacked_of, ack_nacked_among, ack_leaves, by_both, run_left, Stayable, Ackable, acked_with}
+use Rattle.rtps_reader_proxy.specs.Acks.{ack_rows, ack_fits, ack_leaves, by_both, run_left, Stayable, Ackable, acked_with}
 use Rattle.rtps_reader_proxy.proofs.Parts.{room_for_lem, smallest-fits, union_le}
 use Rattle.rtps_reader_proxy.proofs.UnsentCalls.{UnsentIs, unsent-is}
 use Rattle.rtps_reader_proxy.proofs.GapCalls.{GapsAre, gaps_are}
@@ -188,14 +188,3 @@ module _ (beside after : Answer) (set : SequenceNumberSet) (last : SequenceNumbe
   module _ (z : a.number ≡ 0) where
     pub own_done : own.number ≡ 0
     own_done = left-done own beside (sym (ap (λ (x : Answer). x.number) qa) ∙ (turn-done all after (sym (ap (λ (x : Answer). x.number) qt) ∙ z)).0)
-
--- among no others it is the call by itself
-pub alone : (set : SequenceNumberSet) (last : SequenceNumber) (h : ReaderProxy) (unsent gaps : List ℕ) → ack_nacked_among done done set last h unsent gaps ≡ ack_nacked_of set last h unsent gaps
-alone set last h unsent gaps = go (first_row numbers (ack_rows h unsent gaps set last)) (eqb (first_row numbers (ack_rows h unsent gaps set last)) 0) refl
-  where
-    outcome : Answer → Left2 AckNacked (List ℕ) (List ℕ)
-    outcome a = answered a (λ x. record { result = record { answer = x; left_out = 0; proxy = h }; first = unsent; second = gaps }) (ack_leaves set (rank_of last) h unsent gaps)
-
-    go : (k : ℕ) (t : Bool) → eqb k 0 ≡ t → outcome (cond t done (answer_at k)) ≡ outcome (answer_at k)
-    go k true e = ap (λ (x : ℕ). outcome (answer_at x)) (sym (eqb-true k 0 e))
-    go k false e = refl

@@ -61,11 +61,13 @@ ack_leaves set last h unsent gaps =
       second = room_of (length gaps) (acked_reader set last h unsent gaps).gaps;
     }
 
+-- and one that is
+abbrev pub not_acked : ReaderProxy → List ℕ → List ℕ → Answer → Left2 AckNacked (List ℕ) (List ℕ)
+not_acked h unsent gaps a = record { result = record { answer = a; left_out = 0; proxy = h }; first = unsent; second = gaps }
+
 abbrev pub ack_nacked_of : SequenceNumberSet → SequenceNumber → ReaderProxy → List ℕ → List ℕ → Left2 AckNacked (List ℕ) (List ℕ)
 ack_nacked_of set last h unsent gaps =
-    unless (ack_rows h unsent gaps set last)
-    (λ a. record { result = record { answer = a; left_out = 0; proxy = h }; first = unsent; second = gaps })
-    (ack_leaves set (rank_of last) h unsent gaps)
+    unless (ack_rows h unsent gaps set last) (not_acked h unsent gaps) (ack_leaves set (rank_of last) h unsent gaps)
 
 -- the same as one of a step's calls: `beside` is what those are answered that are asked with it, in the table's order, `after` what the one is answered
 -- that comes after them. It is taken where all of them are done
@@ -74,9 +76,7 @@ among_answer beside after set last h unsent gaps = in_turn (earlier (answer_of (
 
 abbrev pub ack_nacked_among : Answer → Answer → SequenceNumberSet → SequenceNumber → ReaderProxy → List ℕ → List ℕ → Left2 AckNacked (List ℕ) (List ℕ)
 ack_nacked_among beside after set last h unsent gaps =
-    answered (among_answer beside after set last h unsent gaps)
-    (λ a. record { result = record { answer = a; left_out = 0; proxy = h }; first = unsent; second = gaps })
-    (ack_leaves set (rank_of last) h unsent gaps)
+    answered (among_answer beside after set last h unsent gaps) (not_acked h unsent gaps) (ack_leaves set (rank_of last) h unsent gaps)
 
 -- WITHIN: what the functions behind the check ask and leave
 

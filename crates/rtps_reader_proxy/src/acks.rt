@@ -1,9 +1,10 @@
 // An ACKNACK: which numbers the reader has, and which it asks for.
 ghost use Rattle.std.specs.Prelude.{◌≡◌, refl, not, [], ◌∷◌, length, take};
+ghost use Rattle.numbers.specs.Answers.{answered};
 ghost use Rattle.numbers.specs.Promise.{Gives1, Gives2};
 ghost use Rattle.numbers.specs.Refusals.{row, answer_of};
 ghost use Rattle.rtps_reader_proxy.specs.Reader.{staying};
-ghost use Rattle.rtps_reader_proxy.specs.Acks.{ack_nacked_of, ack_nacked_among, ack_rows, ack_leaves, Ackable, run_left, Stayable};
+ghost use Rattle.rtps_reader_proxy.specs.Acks.{not_acked, ack_nacked_of, ack_nacked_among, ack_rows, ack_leaves, Ackable, run_left, Stayable};
 
 use crate::proxy::{ReaderProxy, room_for};
 use joined_runs::join;
@@ -69,17 +70,25 @@ impl ReaderProxy {
         ack_answer(fits & coherent, bits, range, ahead)
     }
 
-    // An acknowledgement that is not refused.
+    // An acknowledgement that is answered so: it is taken where that is 0, and else changes nothing.
     fn acknowledged(
         self,
         unsent: &mut [u64],
         gaps: &mut [u64],
         set: SequenceNumberSet,
         last: u64,
+        answer: Answer,
     ) -> AckNacked
-        requires { Ackable self unsent.old gaps.old set last }
-        ensures { Gives2 result unsent.new gaps.new (ack_leaves set last self unsent.old gaps.old) }
+        requires { answer.number ≡ 0 → Ackable self unsent.old gaps.old set last }
+        ensures { Gives2 result unsent.new gaps.new (answered answer (not_acked self unsent.old gaps.old) (ack_leaves set last self unsent.old gaps.old)) }
     {
+        if !answer.is_done() {
+            return AckNacked {
+                answer,
+                left_out: 0,
+                proxy: self,
+            };
+        }
         let a = self.all_acked_before.rank();
         let base = set.base.rank();
         let low = a.max(base.max(1));
@@ -108,7 +117,8 @@ impl ReaderProxy {
     ) -> AckNacked
         ensures { Gives2 result unsent.new gaps.new (ack_nacked_of set last self unsent.old gaps.old) }
     {
-        self.handle_ack_nack_among(unsent, gaps, set, last, Answer::done(), Answer::done())
+        let answer = self.check_ack(unsent, gaps, set, last);
+        self.acknowledged(unsent, gaps, set, last.rank(), answer)
     }
 
     // The same as one of a step's calls: `beside` is what those are answered that are asked with it, `after` what the one is that comes after them. It is
@@ -126,13 +136,6 @@ impl ReaderProxy {
     {
         let own = self.check_ack(unsent, gaps, set, last);
         let answer = in_turn(earlier(own, beside), after);
-        if !answer.is_done() {
-            return AckNacked {
-                answer,
-                left_out: 0,
-                proxy: self,
-            };
-        }
-        self.acknowledged(unsent, gaps, set, last.rank())
+        self.acknowledged(unsent, gaps, set, last.rank(), answer)
     }
 }
