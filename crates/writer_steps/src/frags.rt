@@ -13,7 +13,7 @@ use rtps_reader_proxy::ReaderProxy;
 use rtps_reader_proxy::proxy::Changed;
 
 // What a NACK_FRAG decides of the reader that was found.
-pub fn frags_settled(
+fn frags_settled(
     found: Found,
     proxy: ReaderProxy,
     samples: &mut [u64],
