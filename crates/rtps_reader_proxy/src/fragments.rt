@@ -105,7 +105,7 @@ impl ReaderProxy {
         }
     }
 
-    // A fragment was sent.
+    // A fragment was sent. (Not by a closure, as the calls on unsent numbers: std has words for what a closure leaves of one lent room, and none for two.)
     pub fn mark_frag_sent(
         self,
         samples: &mut [u64],

@@ -1,8 +1,7 @@
 // The unsent numbers: new samples join, sent ones go.
-ghost use Rattle.std.specs.Prelude.{◌≡◌, ℕ, refl, [], ◌∷◌, true, not, ◌&&◌, eqb, length};
+ghost use Rattle.std.specs.Prelude.{◌≡◌, ℕ, refl, [], ◌∷◌, not, ◌&&◌};
 ghost use Rattle.std.specs.Fn.{FnOnceReturnsAtMut};
-ghost use Rattle.rising.specs.Runs.{run_coherent, in_room, newest};
-ghost use Rattle.numbers.specs.Cursor.{cursor_at, next_number};
+ghost use Rattle.numbers.specs.Cursor.{cursor_at};
 ghost use Rattle.numbers.specs.Promise.{Gives1, Gives2};
 ghost use Rattle.numbers.specs.Refusals.{row, answer_of};
 ghost use Rattle.rtps_reader_proxy.specs.Parts.{count_unsent};
