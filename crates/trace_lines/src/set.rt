@@ -27,7 +27,7 @@ fn numbers(s: &[u8], least: u64, room: &mut [u64]) -> Option<usize>
 }
 
 // Rising numbers, each at least `least`, at the start of the room: how many.
-pub fn set(s: &[u8], least: u64, room: &mut [u64]) -> Option<usize>
+pub(crate) fn set(s: &[u8], least: u64, room: &mut [u64]) -> Option<usize>
     ensures { Listing (set_from (length room.old) least s.now) result room.new }
 {
     if s.is_empty() {
