@@ -10,7 +10,7 @@ use borrow.Author.Tests.{ltb-true, ltb-false}
 use Rattle.sets.proofs.Bools.{decide}
 use native.Mathlib.Numerals.{add-one}
 use lib.ListN.{length, take, drop, get_or, set, length-set, length-append, drop_of_length-le}
-use lib.Seq.{drop-cons, set_at, append_snoc, take-nil, take_all, take-append-le}
+use lib.Seq.{drop-cons, set_at, append_snoc, take_all, take-append-le}
 use Rattle.sets.proofs.Those.{single, those_snoc, those-append, those-none, those-length}
 use Rattle.number_sets.specs.Bits.{bit_at, next_bit, marked}
 use Rattle.rising.specs.Runs.{filled}
@@ -61,10 +61,6 @@ pub record Listing (b count : ℕ) (ws out₀ out : List ℕ) (k i : ℕ) : Type
 
 pub listing_few : (b count : ℕ) (ws out₀ out : List ℕ) (k i : ℕ) → Listing b count ws out₀ out k i → k ≤ i
 listing_few b count ws out₀ out k i h = omega (arith, h.counted, those-length i b (λ n. bit_at ws (n - b)))
-
-pub listing_start : (b count : ℕ) (ws out : List ℕ) → Listing b count ws out out 0 0
-listing_start b count ws out =
-    record { most = omega arith; counted = refl; long = refl; laid = sym (ap (λ (l : List ℕ). l ++ out) (take-nil (length out))) }
 
 module _ (b count : ℕ) (ws out₀ out : List ℕ) (k i : ℕ) (h : Listing b count ws out₀ out k i) where
   module _ (j : ℕ) (e : next_bit ws count i ≡ Some j) where

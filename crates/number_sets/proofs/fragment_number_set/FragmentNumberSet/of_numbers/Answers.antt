@@ -1,22 +1,15 @@
 -- `of_numbers` meets its contract. Assumes nothing.
 use mathlib.Core.Path.{◌≡◌, sym, ap, ◌∙◌}
 use lib.ListN.{replicate}
-use borrow.Author.Tests.{eqb-true, eqb-false}
+use borrow.Author.Tests.{eqb-true}
 use Rattle.numbers.specs.Refusals.{answer_of}
 use Rattle.number_sets.proofs.Written.{joined_empty}
-use Rattle.numbers.proofs.Refused.{done-is, is-done, is_refused}
+use Rattle.numbers.proofs.Refused.{done-is, is-done}
 use Rattle.number_sets.specs.declared.fragment_number_set.FragmentNumberSet.{FragmentNumberSet}
 use Rattle.number_sets.specs.Bits.{NumberSet}
 use Rattle.number_sets.specs.Words.{joined}
 use Rattle.number_sets.specs.Calls.{fragment_set, empty_fragments, these_fragments, written_fragment_rows, not_written_fragments, written_fragments}
 use Rattle.number_sets.proofs.fragment_number_set.FragmentNumberSet.of_numbers.Goals as goal
-
-pub returns-then-not-is_done : goal.returns-then-not-is_done
-returns-then-not-is_done c =
-    let g = c.args in
-    let a = c.set_answer-answer in
-    let e : a.result ≡ answer_of (written_fragment_rows g.base g.numbers.now) = rw (a.ensures, c.any_from.ensures, c.any_below.ensures, c.rank-first.ensures, c.from.ensures) in
-    rw c.empty.ensures (is_refused (written_fragment_rows g.base g.numbers.now) a.result e not_written_fragments (written_fragments (these_fragments g.base g.numbers.now)) (eqb-false a.result.number 0 (sym c.is_done.ensures ∙ c.if-not-is_done.true)))
 
 pub returns : goal.returns
 returns c =

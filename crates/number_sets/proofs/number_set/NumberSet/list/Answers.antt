@@ -1,12 +1,9 @@
 -- `list` meets its contract. Assumes nothing.
 use mathlib.Core.Path.{sym, ◌∙◌}
 use native.Mathlib.Omega.{arith}
-use Rattle.number_sets.proofs.List.{listing_few, listing_start, listing_in, listing_set, listing_past, listing_end}
+use Rattle.number_sets.proofs.List.{listing_few, listing_in, listing_set, listing_past, listing_end}
 use Rattle.number_sets.proofs.number_set.NumberSet.list.Goals as goal
 use Rattle.number_sets.proofs.number_set.NumberSet.list.Goals.{then-listed-out, else-listed-out}
-
-pub loop-i-init : goal.loop-i-init
-loop-i-init c = (omega arith, listing_start _ _ _ _)
 
 pub overflow_add-out : goal.overflow_add-out
 overflow_add-out c = let l = c.loop-i in omega (arith, c.requires, listing_in _ _ _ _ _ _ _ l.invariant.1 c.in-Some.i (sym c.next_bit.ensures ∙ c.in-Some.is) l.invariant.0)
