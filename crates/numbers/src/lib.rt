@@ -3,7 +3,6 @@
 
 pub mod answer;
 pub mod answers;
-pub mod arith;
 pub mod cursor;
 pub mod fragment_number;
 pub mod refusal;
