@@ -1,7 +1,8 @@
 // The lines of the list, and the numbers of a line.
 use numbers::SequenceNumber;
 
-// The list, from a line on: at its place stands the place of the next line, and then come its numbers.
+// The list, from a line on: at its place stands the place of the next line, and then come its numbers. It stays one list with places in it, so that a damaged
+// one is read as it always was: a first line that is too short goes on in what stands after it.
 #[derive(Drop)]
 pub(crate) struct Lines<'a> {
     pub all: &'a [u64],

@@ -16,7 +16,7 @@ pub struct Woken {
 }
 
 impl WriterSendBuffer {
-    // Whether a frontier wakes who waits; 0 stands for an absent one.
+    // Whether a frontier wakes who waits; 0 stands for an absent one, as in the definitions that the theorem about both ends cites.
     fn frontier_wakes(self, a: u64) -> bool
         ensures { result ≡ wakes a (flow_view self) }
     {

@@ -1,4 +1,4 @@
-// The flow record changed in place: thin wrappers over the by-value calls.
+// The flow record changed in place: thin wrappers over the by-value calls. Both forms stay: README and the C interface have them.
 ghost use Rattle.numbers.specs.Promise.{Gives1, Gives3};
 ghost use Rattle.writer_send_buffer.specs.Buffer.{acked_of, sent_of, evict_of};
 ghost use Rattle.writer_send_buffer.specs.Samples.{admit_of};

@@ -1,4 +1,4 @@
-// What kind of writer it is, and its limits.
+// What kind of writer it is, and its limits: as C sees them.
 ghost use Rattle.std.specs.Prelude.{◌≡◌, ◌-◌};
 ghost use Rattle.writer_send_buffer.specs.Flow.{allowed, limits_counted};
 

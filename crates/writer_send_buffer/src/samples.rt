@@ -27,7 +27,7 @@ pub struct Located {
     pub length: usize,
 }
 
-// What a fetch is answered, with the bytes of the sample as a part of the lent store; none where the answer isn't 0.
+// What a fetch is answered, with the bytes of the sample as a part of the lent store; none where the answer isn't 0. README tells an empty sample from one that is gone by it.
 #[derive(Clone, Copy)]
 pub struct Fetched<'a> {
     pub answer: Answer,
