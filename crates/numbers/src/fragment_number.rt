@@ -1,5 +1,5 @@
 // The number of a sample's fragment: unsigned, 32 bits, from 1 on.
-ghost use Rattle.std.specs.Prelude.{◌≡◌};
+ghost use Rattle.std.specs.Prelude.{◌≡◌, ltb};
 ghost use Rattle.numbers.specs.Number.{is_fragment, fragment_at};
 
 #[repr(C)]
@@ -36,5 +36,12 @@ impl FragmentNumber {
         ensures { result ≡ is_fragment self }
     {
         (1..=FragmentNumber::LAST).contains(&self.0)
+    }
+
+    // The derived order is that of the numbers.
+    pub fn is_below(self, other: FragmentNumber) -> bool
+        ensures { result ≡ ltb self.0 other.0 }
+    {
+        self < other
     }
 }

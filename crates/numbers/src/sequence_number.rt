@@ -1,5 +1,6 @@
 // The number of a sample: signed, 64 bits.
 ghost use Rattle.std.specs.Prelude.{◌≡◌};
+ghost use Rattle.std.specs.Int.Signed.{lt_z};
 ghost use Rattle.numbers.specs.Number.{Ranked, in_range, is_sample, number_at, negative, past_bits};
 
 #[repr(C)]
@@ -46,6 +47,13 @@ impl SequenceNumber {
         ensures { result ≡ is_sample self }
     {
         (1..=SequenceNumber::LAST).contains(&self.rank())
+    }
+
+    // The comparison of the signed numbers themselves: what the derived order is.
+    pub fn is_below(self, other: SequenceNumber) -> bool
+        ensures { result ≡ lt_z self.0 other.0 }
+    {
+        self < other
     }
 
     // The first natural number past the 256 bits of a set that starts here; where that is below 0, 0.

@@ -27,13 +27,13 @@ abbrev pub front_joined : ℕ → ReaderHead → ℕ
 front_joined n h = cond h.reliable (meet n (max 1 (rank_of h.acked))) n
 
 -- the frontier once a head stands in the slot of an id
-abbrev pub front_with : List ReaderHead → ℕ → ReaderHead → AckedFrontier
-front_with hs i h = frontier_at (front_joined (frontier (others i (readers hs))) h)
+abbrev pub front_stored : List ReaderHead → ℕ → ReaderHead → AckedFrontier
+front_stored hs i h = frontier_at (front_joined (frontier (others i (readers hs))) h)
 
 -- the frontier of the list that a change leaves: once its slot is stored, or where it is refused the list's own
-abbrev pub front_after : List ReaderHead → ℕ → Result Slot Answer → Front
-front_after hs i (Ok s) = record { answer = done; frontier = front_with hs i s.head }
-front_after hs i (Err a) = front_of hs
+abbrev pub front_with : List ReaderHead → ℕ → Result Slot Answer → Front
+front_with hs i (Ok s) = record { answer = done; frontier = front_stored hs i s.head }
+front_with hs i (Err a) = front_of hs
 
 -- THE SLOTS
 

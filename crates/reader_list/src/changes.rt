@@ -1,6 +1,6 @@
 // The slot that each call finds or would store, known before any is stored; and the one place that stores a slot.
 ghost use Rattle.std.specs.Prelude.{◌≡◌, set};
-ghost use Rattle.reader_list.specs.Ahead.{reader_slot, found_slot, match_slot, depart_slot, ack_slot, front_with};
+ghost use Rattle.reader_list.specs.Ahead.{reader_slot, found_slot, match_slot, depart_slot, ack_slot, front_stored};
 
 use crate::calls::{Acked, Match};
 use crate::heads::{AckedFrontier, ReaderHead};
@@ -93,8 +93,8 @@ pub(crate) fn acking(list: &[ReaderHead], a: Acked) -> Result<Slot, Answer>
 }
 
 // The frontier of the list once this head stands in the slot of that id, or in a free slot where no reader has it.
-pub fn front_with(list: &[ReaderHead], id: u64, head: ReaderHead) -> AckedFrontier
-    ensures { result ≡ front_with list.now id head }
+pub fn front_stored(list: &[ReaderHead], id: u64, head: ReaderHead) -> AckedFrontier
+    ensures { result ≡ front_stored list.now id head }
 {
     AckedFrontier::from_rank(joined(smallest_of_others(list, id), head))
 }

@@ -7,7 +7,7 @@ use Rattle.numbers.specs.Capacities.{top_number}
 use Rattle.numbers.specs.Promise.{Gives1}
 use Rattle.sets.specs.Sets.{has, From, only, between, without, insert, union, smallest, largest}
 use Rattle.sets.proofs.Bools.{and_left, and_right, and_both, or_right}
-use Rattle.sets.proofs.Has.{From-low, has-only, has-insert, has-union, From-insert, From-union, From-only}
+use Rattle.sets.proofs.Has.{From-low, From_weak, has-only, has-insert, has-union, From-insert, From-union, From-only}
 use Rattle.sets.proofs.Smallest.{From-take, From-drop, has_take_sub, has_drop_sub}
 use Rattle.rising.specs.Runs.{rises_above, zeros, run_coherent, room_of, place_of, holds_at, cut_out, removed, from_on, before, over, in_room}
 
@@ -66,6 +66,9 @@ rising_union p l m r s =
     go : (n : ℕ) (b : Bool) → has l n ≡ b → (b || has m n) ≡ true → n ≤ top_number
     go n true e q = r.top n e
     go n false e q = s.top n q
+
+pub rising_weak : (p q : ℕ) (l : List ℕ) → p ≤ q → Rising q l → Rising p l
+rising_weak p q l h r = record { from = From_weak (suc p) (suc q) l (omega arith) r.from; top = r.top }
 
 -- A ROOM THAT PASSES THE CHECK: a rising run, and zeros; and the other way round
 

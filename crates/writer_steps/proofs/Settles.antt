@@ -30,7 +30,7 @@ use Rattle.reader_list.specs.declared.calls.Front.{Front}
 use Rattle.reader_list.specs.declared.changes.Slot.{Slot}
 use Rattle.reader_list.specs.Readers.{place_of_id}
 use Rattle.reader_list.specs.Slots.{readers, list_coherent, free_slot, frontier_of, list_rows, id_unknown, match_rows, depart_rows_of, front_of, found_of}
-use Rattle.reader_list.specs.Ahead.{front_with, front_after, match_slot, depart_slot, ack_slot}
+use Rattle.reader_list.specs.Ahead.{front_stored, front_with, match_slot, depart_slot, ack_slot}
 use Rattle.reader_list.proofs.Gather.{id_known}
 use Rattle.reader_list.proofs.Foreseen.{match_front, depart_front, ack_front}
 use Rattle.writer_send_buffer.specs.declared.flow.WriterSendBuffer.{WriterSendBuffer}
@@ -64,17 +64,17 @@ module _ (hs : List ReaderHead) (f : WriterSendBuffer) (i : ℕ) (r : Rows) (k :
   abbrev left : Bool → Left1 Answer (List ReaderHead)
   left b = cond {A = Left1 Answer (List ReaderHead)} b (record { result = done; first = set hs k h }) (record { result = answer_of r; first = hs })
 
-  change_is : front_after hs i (slot (is_done (answer_of r))) ≡ front_of (left (is_done (answer_of r))).first → change_step hs f i (slot (is_done (answer_of r))) ≡ list_step hs f (left (is_done (answer_of r)))
+  change_is : front_with hs i (slot (is_done (answer_of r))) ≡ front_of (left (is_done (answer_of r))).first → change_step hs f i (slot (is_done (answer_of r))) ≡ list_step hs f (left (is_done (answer_of r)))
   change_is = go (is_done (answer_of r)) refl
     where
       same : (t : Bool) (l : List ReaderHead) → l ≡ cond t l l
       same true l = refl
       same false l = refl
 
-      go : (b : Bool) → is_done (answer_of r) ≡ b → front_after hs i (slot b) ≡ front_of (left b).first → change_step hs f i (slot b) ≡ list_step hs f (left b)
+      go : (b : Bool) → is_done (answer_of r) ≡ b → front_with hs i (slot b) ≡ front_of (left b).first → change_step hs f i (slot b) ≡ list_step hs f (left b)
       go true e q =
           ap (λ (w : Woken). step_leaves w hs (set hs k h))
-          (asked_once f (front_with hs i h) ∙ ap (λ (x : Front). after (beside_flow done f) (stored_of x f) f) q)
+          (asked_once f (front_stored hs i h) ∙ ap (λ (x : Front). after (beside_flow done f) (stored_of x f) f) q)
       go false e q =
           let z : is_done (beside_flow (answer_of r) f) ≡ false = ne_eqb _ 0 (λ y. eqb-false _ 0 e (left-done (answer_of r) (answer_of (flow_rows f)) y)) in
           let w : after (beside_flow (answer_of r) f) (stored_of (front_of hs) f) f ≡ not_stored f (beside_flow (answer_of r) f) = rw z in
@@ -101,7 +101,7 @@ module _ (hs : List ReaderHead) (f : WriterSendBuffer) (h : ReaderProxy) (unsent
   head = record { id = found.head.id; reliable = found.head.reliable; acked = acked_by z h }
 
   abbrev ahead_woken : Woken
-  ahead_woken = woken (acked_of f (front_with hs i head))
+  ahead_woken = woken (acked_of f (front_stored hs i head))
 
   abbrev taken_by : Answer → Answer → Left2 AckNacked (List ℕ) (List ℕ)
   taken_by beside then = ack_nacked_among beside then z f.last h unsent gaps
@@ -159,8 +159,8 @@ module _ (hs : List ReaderHead) (f : WriterSendBuffer) (h : ReaderProxy) (unsent
 
     woken_is : ahead_woken ≡ ack_stored hs f i z h
     woken_is =
-        ap (λ (x : ReaderHead). woken (acked_of f (front_with hs i x))) head_is
-        ∙ ap (λ (x : Front). stored_of x f) (ap (front_after hs i) (sym slot_is) ∙ ack_front hs asked)
+        ap (λ (x : ReaderHead). woken (acked_of f (front_stored hs i x))) head_is
+        ∙ ap (λ (x : Front). stored_of x f) (ap (front_with hs i) (sym slot_is) ∙ ack_front hs asked)
 
     taken_is : leaves found ahead_woken (set hs found.place head) ≡ ack_step hs f i z h unsent gaps
     taken_is = λ j. leaves found (woken_is j) (((λ k. set hs (found_is k).place (head_is k)) ∙ sym list_is) j)
@@ -217,10 +217,10 @@ module _ (hs : List ReaderHead) (f : WriterSendBuffer) (h : ReaderProxy) (unsent
     with_acked_is : with_acked ≡ head
     with_acked_is = λ j. record { id = (ed j).head.id; reliable = (ed j).head.reliable; acked = en j }
 
-    module _ (a : AckedFrontier) (ea : a ≡ front_with hs i with_acked) (w : Woken) (ew : w ≡ woken (acked_of f a)) (r : AckNacked) (u g : List ℕ) (o : Gives2 r u g (taken_by b w.told.answer))
+    module _ (a : AckedFrontier) (ea : a ≡ front_stored hs i with_acked) (w : Woken) (ew : w ≡ woken (acked_of f a)) (r : AckNacked) (u g : List ℕ) (o : Gives2 r u g (taken_by b w.told.answer))
         (m : Woken) (em : m ≡ after r.answer w f) (l : List ReaderHead) (el : l ≡ list_after m hs (set hs d.place with_acked)) where
       woken_by : w ≡ ahead_woken
-      woken_by = ew ∙ ap (λ (x : AckedFrontier). woken (acked_of f x)) (ea ∙ ap (front_with hs i) with_acked_is)
+      woken_by = ew ∙ ap (λ (x : AckedFrontier). woken (acked_of f x)) (ea ∙ ap (front_stored hs i) with_acked_is)
 
       moved_is : m ≡ after (taken_by b w.told.answer).result.answer w f
       moved_is = em ∙ ap (λ (x : AckNacked). after x.answer w f) o.result

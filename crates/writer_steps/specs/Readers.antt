@@ -10,7 +10,7 @@ use Rattle.reader_list.specs.declared.calls.Front.{Front}
 use Rattle.reader_list.specs.declared.calls.Match.{Match}
 use Rattle.reader_list.specs.declared.changes.Slot.{Slot}
 use Rattle.reader_list.specs.Slots.{front_of, match_of, depart_of}
-use Rattle.reader_list.specs.Ahead.{front_with}
+use Rattle.reader_list.specs.Ahead.{front_stored}
 use Rattle.writer_send_buffer.specs.declared.flow.WriterSendBuffer.{WriterSendBuffer}
 use Rattle.numbers.specs.declared.answer.Told.{Told}
 use Rattle.writer_send_buffer.specs.declared.frontiers.Woken.{Woken}
@@ -60,5 +60,5 @@ frontier_in f = cond f.present (rank_of f.acked) 0
 -- WITHIN: by the slot that the change would store
 
 abbrev pub change_step : List ReaderHead → WriterSendBuffer → ℕ → Result Slot Answer → Left2 Told (List ReaderHead) WriterSendBuffer
-change_step hs f i (Ok s) = step_leaves (woken (acked_of f (front_with hs i s.head))) hs (set hs s.place s.head)
+change_step hs f i (Ok s) = step_leaves (woken (acked_of f (front_stored hs i s.head))) hs (set hs s.place s.head)
 change_step hs f i (Err a) = record { result = told_no (beside_flow a f); first = hs; second = f }

@@ -8,7 +8,7 @@ use number_sets::SequenceNumberSet;
 use numbers::answers::earlier;
 use numbers::{Answer, Refusal, SequenceNumber};
 use reader_list::calls::matched_reader_lookup;
-use reader_list::changes::{Slot, front_with, store};
+use reader_list::changes::{Slot, front_stored, store};
 use reader_list::{Found, ReaderHead};
 use rtps_reader_proxy::ReaderProxy;
 use writer_send_buffer::{Told, WriterSendBuffer};
@@ -59,7 +59,7 @@ pub fn take_ack_nack(
         ..found.head
     };
     let beside = with_flow(there_for(found, proxy), *flow);
-    let woken = flow.with_acked_frontier(front_with(list, id, head));
+    let woken = flow.with_acked_frontier(front_stored(list, id, head));
     let nacked = proxy.handle_ack_nack_among(
         unsent,
         gaps,

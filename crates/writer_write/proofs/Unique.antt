@@ -10,6 +10,7 @@ use Rattle.writer_send_buffer.specs.declared.flow.WriterSendBuffer.{WriterSendBu
 use Rattle.writer_send_buffer.specs.declared.flow.Numbered.{Numbered}
 use Rattle.writer_send_buffer.specs.declared.samples.Admitted.{Admitted}
 use Rattle.writer_send_buffer.specs.Samples.{handed}
+use Rattle.writer_write.specs.Coherent.{places_coherent}
 use Rattle.writer_write.specs.InPlace.{LeftByWrite, Wrote}
 use Rattle.writer_write.specs.Turns.{writer_of, put_in_all}
 
@@ -17,6 +18,9 @@ pub one_write : {r s : Numbered} {f g : WriterSendBuffer} {store store' lens len
     → (r ≡ s) × (f ≡ g) × (store ≡ store') × (lens ≡ lens') × (hs ≡ hs') × (u ≡ u')
 one_write p q =
     (one p.is-result q.is-result, one p.is-flow q.is-flow, one p.is_store q.is_store, one p.is-lens q.is-lens, one p.is-proxies q.is-proxies, one p.is-unsent q.is-unsent)
+
+pub one_look : (hs : List ReaderProxy) (u : List ℕ) (a b : Bool) → a ≡ places_coherent hs u → b ≡ places_coherent hs u → a ≡ b
+one_look hs u a b p q = one p q
 
 module _ (hs ks ls : List ReaderProxy) (u v w : List ℕ) where
   pub one_put : (m a b : Numbered) → Gives2 a ks v (put_in_all m hs u) → Gives2 b ls w (put_in_all m hs u) → (a ≡ b) × (ks ≡ ls) × (v ≡ w)
