@@ -175,6 +175,23 @@ words-agree p q s (suc m) h =
 pub words_same : (p q : ℕ → Bool) → ((i : ℕ) → i < 256 → p i ≡ q i) → eight_words p ≡ eight_words q
 words_same p q h = words-agree p q 0 8 (λ j l. let e : 0 + j ≡ j = omega arith in ap p e ∙ h j (omega arith) ∙ ap q (sym e))
 
+-- and they are eight words
+word_small : (p : ℕ → Bool) (s k : ℕ) → word_of p s k < 2 ^ k
+unfolding word_of
+word_small p s zero = omega arith
+word_small p s (suc k) = go (p (s + k)) (word_small p s k)
+  where
+    go : (t : Bool) → word_of p s k < 2 ^ k → word_of p s k * 2 + cond t 1 0 < 2 ^ suc k
+    go true h = omega (arith, pow-suc 2 k)
+    go false h = omega (arith, pow-suc 2 k)
+
+pub eight_words_lem : (p : ℕ → Bool) → Eight (eight_words p)
+eight_words_lem p = record { long = words_long p 0 8; fit = λ k. fits k (decide (ltb k 8)) }
+  where
+    fits : (k : ℕ) → (ltb k 8 ≡ true) ⊎ (ltb k 8 ≡ false) → get_or (eight_words p) k 0 < 2 ^ 32
+    fits k (inl e) = subst (λ (x : ℕ). x < 2 ^ 32) (sym (word_at p 0 8 k (ltb-true k 8 e))) (word_small p (0 + 32 * k) 32)
+    fits k (inr e) = subst (λ (x : ℕ). x < 2 ^ 32) (sym (get_or-eq_default (eight_words p) 0 {n = k} (omega (arith, words_long p 0 8, ltb-false k 8 e)))) (omega arith)
+
 -- THE NEXT BIT
 
 module _ (ws : List ℕ) (k c : ℕ) where
