@@ -6,13 +6,12 @@ use mathlib.Core.Logic.{◌⊎◌, inl, inr}
 use mathlib.Core.List.{List}
 use lib.Dec.{ltb}
 use lib.ListN.{length, take}
-use Rattle.std.specs.Prelude.{Option, None, is_some, unwrap_or}
 use Rattle.numbers.specs.Number.{rank_of}
 use Rattle.numbers.specs.Refusals.{is_done}
 use Rattle.numbers.specs.Promise.{Left3}
 use Rattle.writer_send_buffer.specs.declared.flow.WriterSendBuffer.{WriterSendBuffer}
 use Rattle.writer_send_buffer.specs.declared.flow.Moved.{Moved}
-use Rattle.writer_send_buffer.specs.Buffer.{new_flow_of, zeroed}
+use Rattle.writer_send_buffer.specs.Buffer.{new_flow_of}
 use Rattle.trace_lines.specs.Lines.{Said, op_new, op_match, op_write, op_ack, op_sent, op_frag, op_evict, unknown, said}
 use Rattle.trace_text.specs.Answers.{answer_text}
 use Rattle.trace_readers.specs.declared.state.Trace.{Trace}
@@ -24,15 +23,16 @@ use Rattle.trace_answers.specs.Shown.{follow_held, shown_text}
 
 -- no line has made the writer
 pub record Unmade (t : Trace) : Type 0 where
-  pub flow : t.flow ≡ None
+  pub started : t.started ≡ false
+  pub flow : t.flow ≡ trace_begun.flow
 
 -- so it is at first
 pub unmade_at_first : Unmade trace_begun
-unmade_at_first = record { flow = refl }
+unmade_at_first = record { started = refl; flow = refl }
 
 -- it is made, or it isn't yet
 abbrev MadeOrNot : Trace → Type 0
-MadeOrNot t = (is_some t.flow ≡ true) ⊎ Unmade t
+MadeOrNot t = (t.started ≡ true) ⊎ Unmade t
 
 not_later : (b : Bool) → b ≡ false → (x y : Left3 Followed (List ℕ) (List ℕ) (List ℕ)) → MadeOrNot y.result.trace → MadeOrNot (cond b x y).result.trace
 not_later true e x y p = absurd (true≢false e)
@@ -40,7 +40,7 @@ not_later false e x y p = p
 
 -- and after each line, until one makes it
 pub unmade_still : (held : ℕ) (line : List ℕ) (t : Trace) (store large small : List ℕ) → Unmade t
-    → (is_some (follow_held held line t store large small).result.trace.flow ≡ true) ⊎ Unmade (follow_held held line t store large small).result.trace
+    → ((follow_held held line t store large small).result.trace.started ≡ true) ⊎ Unmade (follow_held held line t store large small).result.trace
 unmade_still held line t store large small u = go (ltb (length line) held)
   where
     made : (m : Moved) (d : Bool) → MadeOrNot (cond d (record { answer = m.answer; trace = trace_with_flow m.flow t.heads t }) (refused_by m.answer t)).trace
@@ -60,10 +60,9 @@ unmade_still held line t store large small u = go (ltb (length line) held)
     go : (d : Bool) → MadeOrNot (cond d (no_room (refused_by not_understood t) store large small) (follow_of (take held line) t store large small)).result.trace
     go true = inr u
     go false =
-        not_later (is_some t.flow) (ap is_some u.flow) (later_line (said 256 (take held line)) t store large small) (no_room (first_line (said 256 (take held line)) t) store large small)
+        not_later t.started u.started (later_line (said 256 (take held line)) t store large small) (no_room (first_line (said 256 (take held line)) t) store large small)
         (first (said 256 (take held line)))
 
 -- and till then three zeros are shown
 pub zeros_till_then : (n : ℕ) (f : Followed) → Unmade f.trace → shown_text n f ≡ answer_text n f.answer.number 0 0 0
-zeros_till_then n f u =
-    ap (λ (w : Option WriterSendBuffer). answer_text n f.answer.number (rank_of (unwrap_or w zeroed).last) (rank_of (unwrap_or w zeroed).first) (rank_of (unwrap_or w zeroed).acked)) u.flow
+zeros_till_then n f u = ap (λ (w : WriterSendBuffer). answer_text n f.answer.number (rank_of w.last) (rank_of w.first) (rank_of w.acked)) u.flow

@@ -17,7 +17,6 @@ use Rattle.trace_text.specs.Cuts.{cut_of, line_in, ends_in, Holds}
 use Rattle.trace_text.specs.Answers.{put_of, digits, answer_text}
 use Rattle.trace_text.proofs.LineLaws.{held-line, held_long, cut_holds, holds-none}
 use Rattle.trace_readers.specs.declared.state.Followed.{Followed}
-use Rattle.trace_readers.specs.State.{flow_in}
 use Rattle.trace_answers.specs.Shown.{follow_held, shown_text}
 use Rattle.trace_answers.specs.Input.{Standing, next_line, held_now, with_cut, answered_by}
 use Rattle.trace_answers.specs.Text.{lines_from, TraceKept, follow_line, kept_by, answers_to, kept_in, has_put, to_come}
@@ -146,7 +145,7 @@ module _ (o : Standing) (s l u : List ℕ) (h : Holds o.first (held_now o.result
   ended_same t b room =
       let f : Left3 Followed (List ℕ) (List ℕ) (List ℕ) = follow_held c.result.held c.first o.result.followed.trace o.third o.fourth o.fifth in
       let text : List ℕ = shown_text (next_line o.result.lines) f.result in
-      let p = put_text text o.second o.result.filled (omega (arith, room, answer_short (next_line o.result.lines) f.result.answer.number (rank_of (flow_in f.result.trace).last) (rank_of (flow_in f.result.trace).first) (rank_of (flow_in f.result.trace).acked))) in
+      let p = put_text text o.second o.result.filled (omega (arith, room, answer_short (next_line o.result.lines) f.result.answer.number (rank_of f.result.trace.flow.last) (rank_of f.result.trace.flow.first) (rank_of f.result.trace.flow.acked))) in
       record {
         holds = subst (λ (x : Bool). Holds c.first (cond x 0 c.result.held) []) (sym b) (holds-none c.first);
         all = ap (λ (x : List (List ℕ)). has_put o ++ answers_to (length o.first) (kept_in o) x)

@@ -6,7 +6,7 @@ use Rattle.trace_text.specs.declared.answer.Figures.{Figures}
 use Rattle.trace_text.specs.Answers.{answer_text}
 use Rattle.trace_readers.specs.declared.state.Trace.{Trace}
 use Rattle.trace_readers.specs.declared.state.Followed.{Followed}
-use Rattle.trace_readers.specs.State.{refused_by, not_understood, flow_in}
+use Rattle.trace_readers.specs.State.{refused_by, not_understood}
 use Rattle.trace_run.specs.Follow.{no_room, follow_of}
 
 -- "Lines of at most 512 bytes": one of which more bytes came than its room has isn't understood
@@ -15,7 +15,7 @@ follow_held held line t store large small = cond (ltb (length line) held) (no_ro
 
 -- the writer's figures, zeros until there is a writer
 abbrev pub figures_in : Trace → Figures
-figures_in t = record { last = rank_of (flow_in t).last; first = rank_of (flow_in t).first; acked = rank_of (flow_in t).acked }
+figures_in t = record { last = rank_of t.flow.last; first = rank_of t.flow.first; acked = rank_of t.flow.acked }
 
 -- the answer to line n, and the figures after it
 abbrev pub shown_text : ℕ → Followed → List ℕ

@@ -34,7 +34,7 @@ pub fn follow_held(
 pub fn figures(trace: Trace) -> Figures
     ensures { result ≡ figures_in trace }
 {
-    let flow = trace.flow_or_zeros();
+    let flow = trace.flow;
     Figures {
         last: flow.last.rank(),
         first: flow.first.rank(),

@@ -15,26 +15,24 @@ use Rattle.writer_steps.specs.declared.acks.AckTold.{AckTold}
 use Rattle.writer_steps.specs.Acks.{ack_step}
 use Rattle.trace_readers.specs.declared.state.Trace.{Trace}
 use Rattle.trace_readers.specs.declared.state.Followed.{Followed}
-use Rattle.trace_readers.specs.State.{refused_by, incoherent, flow_in, trace_with_flow, reader_in, with_reader}
+use Rattle.trace_readers.specs.State.{refused_by, incoherent, trace_with_flow, reader_in, with_reader}
 use Rattle.trace_readers.specs.Rooms.{part, unsent_at, gaps_at}
 use Rattle.trace_readers.proofs.Parts.{part_as, put_as}
 use Rattle.trace_readers.specs.Requests.{reader_of, asked_for, ack_part, ack_followed, ack_line}
 
 -- the reader's part of the rooms
 module _ (i id : ℕ) (set : SequenceNumberSet) (t : Trace) (large small : List ℕ) (a d : ℕ) (ea : a ≡ unsent_at i) (ed : d ≡ gaps_at i) where
-  pub ack-part : (p : ReaderProxy) → p ≡ reader_in i t → (w : WriterSendBuffer) → w ≡ flow_in t → (r : AckTold) (hs : List ReaderHead) (f : WriterSendBuffer) (u g : List ℕ)
-      → Gives4 r hs f u g (ack_step t.heads w id set p (take (a + 1024 - a) (drop a large)) (take (d + 256 - d) (drop d small)))
+  pub ack-part : (p : ReaderProxy) → p ≡ reader_in i t → (r : AckTold) (hs : List ReaderHead) (f : WriterSendBuffer) (u g : List ℕ)
+      → Gives4 r hs f u g (ack_step t.heads t.flow id set p (take (a + 1024 - a) (drop a large)) (take (d + 256 - d) (drop d small)))
       → (k : Trace) → k ≡ with_reader i r.proxy (trace_with_flow f hs t)
       → Gives2 (record { answer = r.told.answer; trace = k }) (take a large ++ (u ++ drop (a + 1024 - a) (drop a large))) (take d small ++ (g ++ drop (d + 256 - d) (drop d small))) (ack_followed i id set t large small)
-  ack-part p ep w ew r hs f u g q k ek =
-      let x : Gives4 r hs f u g (ack_step t.heads w id set p (part (unsent_at i) 1024 large) (take (d + 256 - d) (drop d small)))
-      = subst (λ (z : List ℕ). Gives4 r hs f u g (ack_step t.heads w id set p z (take (d + 256 - d) (drop d small)))) (part_as a (unsent_at i) 1024 large ea) q in
-      let y : Gives4 r hs f u g (ack_step t.heads w id set p (part (unsent_at i) 1024 large) (part (gaps_at i) 256 small))
-      = subst (λ (z : List ℕ). Gives4 r hs f u g (ack_step t.heads w id set p (part (unsent_at i) 1024 large) z)) (part_as d (gaps_at i) 256 small ed) x in
-      let v : Gives4 r hs f u g (ack_step t.heads (flow_in t) id set p (part (unsent_at i) 1024 large) (part (gaps_at i) 256 small))
-      = subst (λ (z : WriterSendBuffer). Gives4 r hs f u g (ack_step t.heads z id set p (part (unsent_at i) 1024 large) (part (gaps_at i) 256 small))) ew y in
+  ack-part p ep r hs f u g q k ek =
+      let x : Gives4 r hs f u g (ack_step t.heads t.flow id set p (part (unsent_at i) 1024 large) (take (d + 256 - d) (drop d small)))
+      = subst (λ (z : List ℕ). Gives4 r hs f u g (ack_step t.heads t.flow id set p z (take (d + 256 - d) (drop d small)))) (part_as a (unsent_at i) 1024 large ea) q in
+      let y : Gives4 r hs f u g (ack_step t.heads t.flow id set p (part (unsent_at i) 1024 large) (part (gaps_at i) 256 small))
+      = subst (λ (z : List ℕ). Gives4 r hs f u g (ack_step t.heads t.flow id set p (part (unsent_at i) 1024 large) z)) (part_as d (gaps_at i) 256 small ed) x in
       let o : Gives4 r hs f u g (ack_part i id set t large small)
-      = subst (λ (z : ReaderProxy). Gives4 r hs f u g (ack_step t.heads (flow_in t) id set z (part (unsent_at i) 1024 large) (part (gaps_at i) 256 small))) ep v in
+      = subst (λ (z : ReaderProxy). Gives4 r hs f u g (ack_step t.heads t.flow id set z (part (unsent_at i) 1024 large) (part (gaps_at i) 256 small))) ep y in
       record {
         result =
             ap (λ (z : Trace). record { answer = r.told.answer; trace = z }) ek

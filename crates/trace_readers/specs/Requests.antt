@@ -20,7 +20,7 @@ use Rattle.numbers.specs.Answers.{stepped}
 use Rattle.writer_steps.specs.Acks.{ack_step}
 use Rattle.trace_readers.specs.declared.state.Trace.{Trace}
 use Rattle.trace_readers.specs.declared.state.Followed.{Followed}
-use Rattle.trace_readers.specs.State.{refused_by, incoherent, own_answer, flow_in, trace_with_flow, reader_in, with_reader}
+use Rattle.trace_readers.specs.State.{refused_by, incoherent, own_answer, trace_with_flow, reader_in, with_reader}
 use Rattle.trace_readers.specs.Rooms.{part, put, large_fits, small_fits, unsent_at, gaps_at}
 
 -- whose record a reader has: that of its slot. One that isn't there counts as the first: what comes before 11 is found by its record
@@ -43,7 +43,7 @@ asked_for base l = unless_too_many (of_numbers (number_at base) l) (number_at ba
 
 -- what the step of a server takes for the reader that was looked for (`ack_step`)
 abbrev pub ack_part : ℕ → ℕ → SequenceNumberSet → Trace → List ℕ → List ℕ → Left4 AckTold (List ReaderHead) WriterSendBuffer (List ℕ) (List ℕ)
-ack_part i id set t large small = ack_step t.heads (flow_in t) id set (reader_in i t) (part (unsent_at i) 1024 large) (part (gaps_at i) 256 small)
+ack_part i id set t large small = ack_step t.heads t.flow id set (reader_in i t) (part (unsent_at i) 1024 large) (part (gaps_at i) 256 small)
 
 -- and what is then kept, with the rooms, whole
 abbrev pub ack_kept : ℕ → Trace → List ℕ → List ℕ → Left4 AckTold (List ReaderHead) WriterSendBuffer (List ℕ) (List ℕ) → Left2 Followed (List ℕ) (List ℕ)
@@ -67,7 +67,7 @@ ack_line id base l t large small =
 -- OP=SENT: the number is marked sent for that reader; "`sent` also raises the sent frontier"
 
 abbrev pub sent_answers : ℕ → Answer → SequenceNumber → Trace → List ℕ → List Answer
-sent_answers i looked n t unsent = own_answer (unsent_coherent (reader_in i t) unsent) ∷ (sent_of (flow_in t) n).result.answer ∷ looked ∷ []
+sent_answers i looked n t unsent = own_answer (unsent_coherent (reader_in i t) unsent) ∷ (sent_of t.flow n).result.answer ∷ looked ∷ []
 
 abbrev pub not_sent : Trace → List ℕ → Answer → Left1 Followed (List ℕ)
 not_sent t unsent a = record { result = refused_by a t; first = unsent }
@@ -75,7 +75,7 @@ not_sent t unsent a = record { result = refused_by a t; first = unsent }
 abbrev pub is_sent : ℕ → SequenceNumber → Trace → List ℕ → Left1 Followed (List ℕ)
 is_sent i n t unsent =
     record {
-      result = record { answer = done; trace = with_reader i (marked_sent_of n (reader_in i t) unsent).result.proxy (trace_with_flow (sent_of (flow_in t) n).first t.heads t) };
+      result = record { answer = done; trace = with_reader i (marked_sent_of n (reader_in i t) unsent).result.proxy (trace_with_flow (sent_of t.flow n).first t.heads t) };
       first = (marked_sent_of n (reader_in i t) unsent).first;
     }
 

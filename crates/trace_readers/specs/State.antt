@@ -1,5 +1,5 @@
 -- What a trace keeps from line to line. Assumes nothing.
-use Rattle.std.specs.Prelude.{ℕ, refl, Bool, not, List, [], ◌∷◌, Some, None, get_or, set, unwrap_or}
+use Rattle.std.specs.Prelude.{ℕ, refl, Bool, not, List, [], ◌∷◌, get_or, set, true, false}
 use Rattle.numbers.specs.Refusals.{answer_at, row, answer_of}
 use Rattle.numbers.specs.declared.answer.Answer.{Answer}
 use Rattle.rtps_reader_proxy.specs.declared.proxy.ReaderProxy.{ReaderProxy}
@@ -17,11 +17,7 @@ reader_begun = (new_proxy_of 1024).proxy
 
 -- before the first line: no writer, and "room for two reliable readers"
 abbrev pub trace_begun : Trace
-trace_begun = record { flow = None; heads = free_slot ∷ free_slot ∷ []; readers = reader_begun ∷ reader_begun ∷ [] }
-
--- the flow record; zeros until there is a writer
-abbrev pub flow_in : Trace → WriterSendBuffer
-flow_in t = unwrap_or t.flow zeroed
+trace_begun = record { started = false; flow = zeroed; heads = free_slot ∷ free_slot ∷ []; readers = reader_begun ∷ reader_begun ∷ [] }
 
 -- "Every number but 0 .. changes nothing"
 abbrev pub refused_by : Answer → Trace → Followed
@@ -36,14 +32,14 @@ not_understood = answer_at 15
 
 -- from the line on that makes the writer
 abbrev pub trace_with_flow : WriterSendBuffer → List ReaderHead → Trace → Trace
-trace_with_flow f hs t = record { flow = Some f; heads = hs; readers = t.readers }
+trace_with_flow f hs t = record { started = true; flow = f; heads = hs; readers = t.readers }
 
 -- the reader in the slot i
 abbrev pub reader_in : ℕ → Trace → ReaderProxy
 reader_in i t = get_or t.readers i reader_begun
 
 abbrev pub with_reader : ℕ → ReaderProxy → Trace → Trace
-with_reader i p t = record { flow = t.flow; heads = t.heads; readers = set t.readers i p }
+with_reader i p t = record { started = t.started; flow = t.flow; heads = t.heads; readers = set t.readers i p }
 
 -- 1, where a record and its rooms aren't coherent
 abbrev pub own_answer : Bool → Answer

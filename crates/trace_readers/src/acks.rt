@@ -45,17 +45,16 @@ impl Trace {
         let d = gaps_at(i);
         let e = d + ReaderProxy::GAPS;
         let proxy = self.reader(i);
-        let mut flow = self.flow_or_zeros();
         let taken = take_ack_nack(
             &mut self.heads,
-            &mut flow,
+            &mut self.flow,
             proxy,
             &mut large[a..b],
             &mut small[d..e],
             id,
             set,
         );
-        self.flow = Some(flow);
+        self.started = true;
         self.readers[i] = taken.proxy;
         Followed {
             answer: taken.told.answer,

@@ -24,14 +24,15 @@ impl Trace {
     {
         let proxy = self.reader(i);
         let own = Answer::coherence(proxy.unsent_coherent(unsent));
-        let mut flow = self.flow_or_zeros();
+        let mut flow = self.flow;
         let told = flow.set_sent_frontier(n);
         let answer = earlier(own, earlier(told.answer, looked));
         if answer.number != 0 {
             return self.refused(answer);
         }
         let marked = proxy.mark_change_sent(unsent, n);
-        self.flow = Some(flow);
+        self.started = true;
+        self.flow = flow;
         self.readers[i] = marked.proxy;
         Followed {
             answer: Answer::done(),

@@ -1,15 +1,17 @@
 // What a trace keeps from line to line: the writer, once a line has made it, and its two readers. Their rooms are lent beside it.
 ghost use Rattle.std.specs.Prelude.{◌≡◌, ◌<◌};
-ghost use Rattle.trace_readers.specs.State.{trace_begun, refused_by, incoherent, not_understood, flow_in, reader_in};
+ghost use Rattle.trace_readers.specs.State.{trace_begun, refused_by, incoherent, not_understood, reader_in};
 
 use numbers::{Answer, SequenceNumber};
 use reader_list::ReaderHead;
 use rtps_reader_proxy::ReaderProxy;
 use writer_send_buffer::WriterSendBuffer;
 
+// `started` stays beside the record: `follow` and `answer_piece` take any trace.
 #[derive(Clone, Copy)]
 pub struct Trace {
-    pub flow: Option<WriterSendBuffer>,
+    pub started: bool,
+    pub flow: WriterSendBuffer,
     pub heads: [ReaderHead; 2],
     pub readers: [ReaderProxy; 2],
 }
@@ -55,17 +57,11 @@ impl Trace {
         };
         let fresh = ReaderProxy::new(ReaderProxy::DEFAULT_UNSENT_CAP).proxy;
         Trace {
-            flow: None,
+            started: false,
+            flow: WriterSendBuffer::default(),
             heads: [free, free],
             readers: [fresh, fresh],
         }
-    }
-
-    // The flow record; zeros until there is a writer.
-    pub fn flow_or_zeros(self) -> WriterSendBuffer
-        ensures { result ≡ flow_in self }
-    {
-        self.flow.unwrap_or(WriterSendBuffer::default())
     }
 
     pub(crate) fn reader(self, i: usize) -> ReaderProxy

@@ -6,7 +6,7 @@ use mathlib.Core.List.{List}
 use native.Mathlib.Omega.{arith}
 use lib.ListN.{length, take, replicate, length-append}
 use lib.Seq.{take_at}
-use Rattle.std.specs.Prelude.{Option, Some, None, is_some}
+use Rattle.std.specs.Prelude.{Option, Some, None}
 use Rattle.numbers.specs.Promise.{Left3, Gives1, Gives2, Gives3}
 use Rattle.trace_lines.specs.declared.command.Command.{Command}
 use Rattle.trace_lines.specs.declared.command.Command.TheVariants.{Ack, Frag}
@@ -60,7 +60,7 @@ other_said (op_ack a b l) t store large small h = cc
 other_said (op_sent a b) t store large small h = cc
 other_said (op_frag a b l) t store large small h = cc
 other_said (op_evict a) t store large small h = cc
-other_said unknown t store large small h = go (is_some t.flow)
+other_said unknown t store large small h = go t.started
   where
     go : (b : Bool) → no_room (refused_by not_understood t) store large small ≡ cond b (no_room (refused_by not_understood t) store large small) (no_room (refused_by not_understood t) store large small)
     go true = refl
@@ -87,13 +87,13 @@ module _ (n : ℕ) (line : List ℕ) (t : Trace) (store large small : List ℕ) 
       (record { result = e; first = refl; second = refl; third = refl })
 
   module _ (c : Command) (g : Gives1 (Some c) numbers (command_left n (said n line))) where
-    pub follow_first : is_some t.flow ≡ false → (r : Followed) → r ≡ first_by c t → Gives3 r store large small (followed_by (said n line) t store large small)
+    pub follow_first : t.started ≡ false → (r : Followed) → r ≡ first_by c t → Gives3 r store large small (followed_by (said n line) t store large small)
     follow_first s r e =
         gives_as (no_room (first_line (said n line) t) store large small) (followed_by (said n line) t store large small)
         (sym (ap (λ (b : Bool). cond b (later_line (said n line) t store large small) (no_room (first_line (said n line) t) store large small)) s))
         (record { result = e ∙ first_said (said n line) c t g.result; first = refl; second = refl; third = refl })
 
-    pub follow_later : is_some t.flow ≡ true → (r : Followed) (u v w : List ℕ) → Gives3 r u v w (later_by c numbers t store large small) → Gives3 r u v w (followed_by (said n line) t store large small)
+    pub follow_later : t.started ≡ true → (r : Followed) (u v w : List ℕ) → Gives3 r u v w (later_by c numbers t store large small) → Gives3 r u v w (followed_by (said n line) t store large small)
     follow_later s r u v w k =
         let e : later_by c numbers t store large small ≡ later_line (said n line) t store large small
         = ap (λ (x : List ℕ). later_by c x t store large small) g.first ∙ later-said n (said n line) c t store large small g.result in

@@ -15,7 +15,7 @@ use Rattle.reader_list.specs.Slots.{free_slot}
 use Rattle.writer_send_buffer.specs.declared.samples.Admitted.{Admitted}
 use Rattle.trace_readers.specs.declared.state.Trace.{Trace}
 use Rattle.trace_readers.specs.declared.state.Followed.{Followed}
-use Rattle.trace_readers.specs.State.{refused_by, incoherent, own_answer, flow_in, trace_with_flow, reader_in, with_reader}
+use Rattle.trace_readers.specs.State.{refused_by, incoherent, own_answer, trace_with_flow, reader_in, with_reader}
 use Rattle.trace_readers.specs.Rooms.{part, unsent_at}
 use Rattle.trace_readers.proofs.Parts.{part_as, put_as}
 use Rattle.trace_run.specs.Writes.{told_to, told_at, told_first, told_both, coherent_at, both_coherent, admit_put, told_after, written_by, written_of, payload_of, write_line}
@@ -47,20 +47,20 @@ pub told_all : (i : ℕ) (t s : Trace) (n : SequenceNumber) (large m : List ℕ)
 told_all i t s n large m e g = subst (λ (k : ℕ). Gives1 s m (told_first k t n large)) e g
 
 module _ (payload : List ℕ) (t : Trace) (store large : List ℕ) (a : Answer) (ea : a ≡ own_answer (both_coherent t large)) where
-  into : a.number ≡ 0 → {r : Followed} {u v : List ℕ} → Gives2 r u v (written_by (admit_put (flow_in t) payload store large) t) → Gives2 r u v (written_of payload t store large)
+  into : a.number ≡ 0 → {r : Followed} {u v : List ℕ} → Gives2 r u v (written_by (admit_put t.flow payload store large) t) → Gives2 r u v (written_of payload t store large)
   into z g = rw (eq-eqb (own_answer (both_coherent t large)).number 0 (sym (ap (λ (x : Answer). x.number) ea) ∙ z)) g
 
-  module _ (z : a.number ≡ 0) (d : Admitted) (u v : List ℕ) (g : Gives2 d u v (admit_put (flow_in t) payload store large)) where
+  module _ (z : a.number ≡ 0) (d : Admitted) (u v : List ℕ) (g : Gives2 d u v (admit_put t.flow payload store large)) where
     abbrev had : Left2 Admitted (List ℕ) (List ℕ)
     had = record { result = d; first = u; second = v }
 
-    same : had ≡ admit_put (flow_in t) payload store large
+    same : had ≡ admit_put t.flow payload store large
     same =
         ap (λ (x : Admitted). record { result = x; first = u; second = v }) g.result
-        ∙ ap (λ (x : List ℕ). record { result = (admit_put (flow_in t) payload store large).result; first = x; second = v }) g.first
-        ∙ ap (λ (x : List ℕ). record { result = (admit_put (flow_in t) payload store large).result; first = (admit_put (flow_in t) payload store large).first; second = x }) g.second
+        ∙ ap (λ (x : List ℕ). record { result = (admit_put t.flow payload store large).result; first = x; second = v }) g.first
+        ∙ ap (λ (x : List ℕ). record { result = (admit_put t.flow payload store large).result; first = (admit_put t.flow payload store large).first; second = x }) g.second
 
-    turn : {r : Followed} {x y : List ℕ} → Gives2 r x y (written_by had t) → Gives2 r x y (written_by (admit_put (flow_in t) payload store large) t)
+    turn : {r : Followed} {x y : List ℕ} → Gives2 r x y (written_by had t) → Gives2 r x y (written_by (admit_put t.flow payload store large) t)
     turn {r} {x} {y} k = subst (λ (o : Left2 Admitted (List ℕ) (List ℕ)). Gives2 r x y (written_by o t)) same k
 
     pub admit_refused : (d.numbered.answer.number ≡ 0 → ⊥) → (r : Followed) → r ≡ refused_by d.numbered.answer t → Gives2 r u v (written_of payload t store large)

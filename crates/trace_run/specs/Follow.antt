@@ -1,5 +1,5 @@
 -- What a line is answered, and what it leaves. Assumes nothing.
-use Rattle.std.specs.Prelude.{ℕ, min, cond, List, is_some, length, take}
+use Rattle.std.specs.Prelude.{ℕ, min, cond, List, length, take}
 use Rattle.numbers.specs.Promise.{Left1, Left2, Left3}
 use Rattle.trace_lines.specs.declared.command.Command.{Command}
 use Rattle.trace_lines.specs.declared.command.Command.TheVariants.{New, Match, Write, Ack, Sent, Frag, Evict}
@@ -48,7 +48,7 @@ later_line (op_evict before) t store large small = no_room (evict_step before t)
 later_line unknown t store large small = no_room (refused_by not_understood t) store large small
 
 abbrev pub followed_by : Said → Trace → List ℕ → List ℕ → List ℕ → Left3 Followed (List ℕ) (List ℕ) (List ℕ)
-followed_by c t store large small = cond (is_some t.flow) (later_line c t store large small) (no_room (first_line c t) store large small)
+followed_by c t store large small = cond t.started (later_line c t store large small) (no_room (first_line c t) store large small)
 
 -- a line of at most 512 bytes has no more than 256 numbers
 abbrev pub follow_of : List ℕ → Trace → List ℕ → List ℕ → List ℕ → Left3 Followed (List ℕ) (List ℕ) (List ℕ)

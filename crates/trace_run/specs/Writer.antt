@@ -14,7 +14,7 @@ use Rattle.writer_send_buffer.specs.Buffer.{new_flow_of, evict_of}
 use Rattle.writer_steps.specs.Readers.{match_step}
 use Rattle.trace_readers.specs.declared.state.Trace.{Trace}
 use Rattle.trace_readers.specs.declared.state.Followed.{Followed}
-use Rattle.trace_readers.specs.State.{refused_by, flow_in, trace_with_flow}
+use Rattle.trace_readers.specs.State.{refused_by, trace_with_flow}
 
 -- "a reliable volatile writer with 16-byte slots"
 abbrev pub kind_of : Kind
@@ -35,11 +35,11 @@ abbrev pub listed_by : Left2 Told (List ReaderHead) WriterSendBuffer → Trace �
 listed_by o t = record { answer = o.result.answer; trace = trace_with_flow o.second o.first t }
 
 abbrev pub matched_step : ℕ → Trace → Followed
-matched_step id t = listed_by (match_step t.heads (flow_in t) (record { id = id; reliable = true; cap = 1024 })) t
+matched_step id t = listed_by (match_step t.heads t.flow (record { id = id; reliable = true; cap = 1024 })) t
 
 -- op=evict before=
 abbrev pub moved_by : Left1 Answer WriterSendBuffer → Trace → Followed
 moved_by o t = record { answer = o.result; trace = trace_with_flow o.first t.heads t }
 
 abbrev pub evict_step : ℕ → Trace → Followed
-evict_step before t = moved_by (evict_of (flow_in t) (number_at before)) t
+evict_step before t = moved_by (evict_of t.flow (number_at before)) t

@@ -13,7 +13,7 @@ use Rattle.writer_send_buffer.specs.declared.samples.Admitted.{Admitted}
 use Rattle.writer_send_buffer.specs.Samples.{admit_of, handed}
 use Rattle.trace_readers.specs.declared.state.Trace.{Trace}
 use Rattle.trace_readers.specs.declared.state.Followed.{Followed}
-use Rattle.trace_readers.specs.State.{refused_by, incoherent, own_answer, flow_in, trace_with_flow, reader_in, with_reader}
+use Rattle.trace_readers.specs.State.{refused_by, incoherent, own_answer, trace_with_flow, reader_in, with_reader}
 use Rattle.trace_readers.specs.Rooms.{part, put, large_fits, unsent_at, store_fits}
 
 -- "It notifies every reader of each admitted number"; a free slot is none
@@ -75,7 +75,7 @@ written_by a t =
 abbrev pub written_of : List ℕ → Trace → List ℕ → List ℕ → Left2 Followed (List ℕ) (List ℕ)
 written_of payload t store large =
     cond (is_done (own_answer (both_coherent t large)))
-    (written_by (admit_put (flow_in t) payload store large) t)
+    (written_by (admit_put t.flow payload store large) t)
     (record { result = refused_by (own_answer (both_coherent t large)) t; first = store; second = large })
 
 -- zeros, as many as the line says; one byte too many stands for any number of bytes too many

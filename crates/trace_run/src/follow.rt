@@ -70,7 +70,7 @@ pub fn follow(
     let Some(command) = read_line(line, &mut numbers) else {
         return trace.not_understood();
     };
-    if trace.flow.is_some() {
+    if trace.started {
         later_line(trace, command, &numbers, store, large, small)
     } else {
         first_line(trace, command)

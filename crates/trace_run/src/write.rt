@@ -106,13 +106,14 @@ fn written(trace: Trace, payload: &[u8], store: &mut [u8], large: &mut [u64]) ->
     if own.number != 0 {
         return trace.refused(own);
     }
-    let admitted = admitted_in(trace.flow_or_zeros(), payload, store, large);
+    let admitted = admitted_in(trace.flow, payload, store, large);
     let answer = admitted.numbered.answer;
     if answer.number != 0 {
         return trace.refused(answer);
     }
     let after = Trace {
-        flow: Some(admitted.flow),
+        started: true,
+        flow: admitted.flow,
         ..trace
     };
     Followed {

@@ -31,7 +31,8 @@ pub fn new_step(trace: Trace, window: u64, backlog: u64, retain: u64, slots: u64
     Followed {
         answer: made.answer,
         trace: Trace {
-            flow: Some(made.flow),
+            started: true,
+            flow: made.flow,
             ..trace
         },
     }
@@ -46,9 +47,8 @@ pub fn match_step(mut trace: Trace, id: u64) -> Followed
         reliable: true,
         cap: 1024,
     };
-    let mut flow = trace.flow_or_zeros();
-    let told = match_reader(&mut trace.heads, &mut flow, m);
-    trace.flow = Some(flow);
+    let told = match_reader(&mut trace.heads, &mut trace.flow, m);
+    trace.started = true;
     Followed {
         answer: told.answer,
         trace,
@@ -59,8 +59,8 @@ pub fn match_step(mut trace: Trace, id: u64) -> Followed
 pub fn evict_step(mut trace: Trace, before: u64) -> Followed
     ensures { result ≡ evict_step before trace }
 {
-    let mut flow = trace.flow_or_zeros();
-    let answer = flow.remove_changes_before(SequenceNumber::from_rank(before));
-    trace.flow = Some(flow);
+    let before = SequenceNumber::from_rank(before);
+    let answer = trace.flow.remove_changes_before(before);
+    trace.started = true;
     Followed { answer, trace }
 }

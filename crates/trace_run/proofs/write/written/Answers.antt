@@ -1,9 +1,6 @@
 -- The payload admitted, or refused by the buffer, and then both readers told.
-use Rattle.std.proofs.Common.{ap, refl, subst, ◌∙◌}
-use Rattle.numbers.specs.Promise.{Gives2}
-use Rattle.writer_send_buffer.specs.declared.flow.WriterSendBuffer.{WriterSendBuffer}
+use Rattle.std.proofs.Common.{ap, refl, ◌∙◌}
 use Rattle.trace_readers.specs.State.{own_answer}
-use Rattle.trace_run.specs.Writes.{admit_put}
 use Rattle.trace_run.proofs.WriteLaws.{admit_refused, write_done}
 use Rattle.trace_run.proofs.write.written.Goals as goal
 
@@ -15,7 +12,7 @@ returns-then-answer-ne0 c =
     let refused = c.refused-then-answer-ne0 in
     admit_refused a.payload.now a.trace a.store.now a.large.now own.result (own.ensures ∙ ap own_answer c.both_coherent.ensures) c.if-own-ne0.false
     d.result d.new.store d.new.large
-    (subst (λ (f : WriterSendBuffer). Gives2 d.result d.new.store d.new.large (admit_put f a.payload.now a.store.now a.large.now)) c.flow_or_zeros.ensures d.ensures)
+    d.ensures
     c.if-answer-ne0.true refused.result refused.ensures
 
 pub returns : goal.returns
@@ -26,5 +23,5 @@ returns c =
     let told = c.told_both in
     write_done a.payload.now a.trace a.store.now a.large.now own.result (own.ensures ∙ ap own_answer c.both_coherent.ensures) c.if-own-ne0.false
     d.result d.new.store d.new.large
-    (subst (λ (f : WriterSendBuffer). Gives2 d.result d.new.store d.new.large (admit_put f a.payload.now a.store.now a.large.now)) c.flow_or_zeros.ensures d.ensures)
+    d.ensures
     c.if-answer-ne0.false _ refl told.result told.new.large told.ensures
