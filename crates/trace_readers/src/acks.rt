@@ -17,7 +17,7 @@ fn asked(base: u64, numbers: &[u64]) -> SequenceNumberSet
 {
     let from = SequenceNumber::from_rank(base);
     let made = SequenceNumberSet::of_numbers(from, numbers);
-    if made.answer.number == 0 {
+    if made.answer.is_done() {
         return made.set;
     }
     SequenceNumberSet {

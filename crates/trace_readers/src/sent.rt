@@ -27,7 +27,7 @@ impl Trace {
         let mut flow = self.flow;
         let told = flow.set_sent_frontier(n);
         let answer = earlier(own, earlier(told.answer, looked));
-        if answer.number != 0 {
+        if !answer.is_done() {
             return self.refused(answer);
         }
         let marked = proxy.mark_change_sent(unsent, n);

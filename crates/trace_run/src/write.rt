@@ -103,12 +103,12 @@ fn written(trace: Trace, payload: &[u8], store: &mut [u8], large: &mut [u64]) ->
     ensures { Gives2 result store.new large.new (written_of payload.now trace store.old large.old) }
 {
     let own = Answer::coherence(both_coherent(trace, large));
-    if own.number != 0 {
+    if !own.is_done() {
         return trace.refused(own);
     }
     let admitted = admitted_in(trace.flow, payload, store, large);
     let answer = admitted.numbered.answer;
-    if answer.number != 0 {
+    if !answer.is_done() {
         return trace.refused(answer);
     }
     let after = Trace {

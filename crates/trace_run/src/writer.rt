@@ -25,7 +25,7 @@ pub fn new_step(trace: Trace, window: u64, backlog: u64, retain: u64, slots: u64
         slot_bytes: 16,
     };
     let made = WriterSendBuffer::new(kind, limits);
-    if made.answer.number != 0 {
+    if !made.answer.is_done() {
         return trace.refused(made.answer);
     }
     Followed {
