@@ -1,4 +1,4 @@
-// The members of a set of sequence numbers join a run in lent room.
+// The members of a set of sequence numbers join a run in lent room. The run is a room and a count, as in `rising::room`.
 #![tactic(auto)]
 
 ghost use Rattle.std.specs.Prelude.{◌≡◌, ◌≤◌, length, take};

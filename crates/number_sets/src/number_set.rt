@@ -88,7 +88,7 @@ impl NumberSet {
     fn cut_bits(&self, lo: usize, hi: usize) -> [u32; 8]
         ensures { result ≡ eight_words (λ i. (leb lo i && ltb i hi) && bit_at self.now.words i) }
     {
-        let mut out: [u32; 8] = [0; 8];
+        let mut out = [0; 8];
         for j in 0..words_to(hi) {
             out[j] = kept(self.words[j], part(lo, j), part(hi, j));
         }
@@ -128,6 +128,7 @@ impl NumberSet {
     {
         let mut listed = 0;
         let mut from = 0;
+        // Each turn goes on from the bit that the last one found.
         while let Some(i) = self.next_bit(from) {
             if listed < out.len() {
                 out[listed] = self.base + i as u64;
@@ -157,7 +158,7 @@ impl NumberSet {
         ensures { result ≡ length (members self.now) }
     {
         let count = self.count as usize;
-        let mut n: usize = 0;
+        let mut n = 0;
         for j in 0..words_to(count) {
             n += kept(self.words[j], 0, part(count, j)).count_ones() as usize;
         }

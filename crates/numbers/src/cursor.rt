@@ -62,7 +62,7 @@ impl FragmentCursor {
 }
 
 impl NextNumber {
-    // The answer of a question for the next number that found n, or met a row.
+    // The answer of a question for the next number that found n, or met a row; n is 0 where nothing is found. A C struct, so that the answer stands beside it.
     pub fn of(answer: Answer, n: u64) -> NextNumber
         ensures { result ≡ answered answer no_next_number (this_number n) }
     {
@@ -81,6 +81,7 @@ impl NextNumber {
 }
 
 impl NextFragment {
+    // The same for a fragment. What the two share is one `if`: a trait for it would be longer.
     pub fn of(answer: Answer, n: u64) -> NextFragment
         ensures { result ≡ answered answer no_next_fragment (this_fragment n) }
     {

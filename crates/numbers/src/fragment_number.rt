@@ -24,6 +24,7 @@ impl FragmentNumber {
         u64::from(self.0)
     }
 
+    // A total method and no TryFrom: what may not change, the definition `fragment_at`.
     // The fragment number of a natural number; of one that is too large, 0.
     pub fn from_rank(n: u64) -> FragmentNumber
         ensures { result ≡ fragment_at n }
@@ -38,7 +39,7 @@ impl FragmentNumber {
         (1..=FragmentNumber::LAST).contains(&self.0)
     }
 
-    // The derived order is that of the numbers.
+    // The derived order is that of the numbers. A public method: what may not change.
     pub fn is_below(self, other: FragmentNumber) -> bool
         ensures { result ≡ ltb self.0 other.0 }
     {

@@ -50,7 +50,7 @@ pub enum Refusal {
     Line = 15,
 }
 
-// What has a number of document 01.
+// What has a number of document 01. No `Into<u32>`: the promise of `unless` needs the number as a function, and std's `from_gives` is a relation.
 pub trait Numbered {
     ghost number: { Self → ℕ };
 
@@ -58,6 +58,7 @@ pub trait Numbered {
         ensures { result ≡ number self };
 }
 
+// A plain number too: `Answer::unless` took one, which may not change.
 impl Numbered for u32 {
     ghost number = { λ n. n };
 

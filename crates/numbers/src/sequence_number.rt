@@ -14,6 +14,7 @@ impl SequenceNumber {
     // The largest of all, 2 ^ 63 - 1: all before it may be acknowledged.
     pub const LARGEST: u64 = 9223372036854775807;
 
+    // `rank` and `from_rank` are total methods and no From and TryFrom: what may not change, the definitions `Ranked` and `number_at`.
     // The natural number of a sequence number; 0 stands for all that are below 1. By `max`, since a range is then one comparison (`try_from` takes
     // three to eight instructions more, in each check of a record).
     pub fn rank(self) -> u64
@@ -49,7 +50,7 @@ impl SequenceNumber {
         (1..=SequenceNumber::LAST).contains(&self.rank())
     }
 
-    // The comparison of the signed numbers themselves: what the derived order is.
+    // The comparison of the signed numbers themselves: what the derived order is. A public method: what may not change.
     pub fn is_below(self, other: SequenceNumber) -> bool
         ensures { result ≡ lt_z self.0 other.0 }
     {

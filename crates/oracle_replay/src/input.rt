@@ -65,8 +65,8 @@ impl Form {
         ensures { IfSome result (λ d. d < 16) }
     {
         match (self, b) {
-            (_, b'0'..=b'9') => Some((b - b'0') as u64),
-            (Form::Hex, b'a'..=b'f') => Some((b - b'a') as u64 + 10),
+            (_, b'0'..=b'9') => Some(u64::from(b - b'0')),
+            (Form::Hex, b'a'..=b'f') => Some(u64::from(b - b'a') + 10),
             _ => None,
         }
     }

@@ -42,7 +42,7 @@ impl<'a> Numbers<'a> {
         Some(*first)
     }
 
-    // The next number; where none is left, 0.
+    // The next number; where none is left, 0. A damaged head is read so, as it always was.
     pub(crate) fn next_or_0(&mut self) -> u64 {
         self.next().unwrap_or(0)
     }

@@ -62,7 +62,7 @@ fn run(rt: &impl Print, all: &[u64]) -> io::Result<()> {
     println!(rt; "{same} of {calls} calls are as the crate's")
 }
 
-// Room for the bytes of the list.
+// Room for the bytes of the list: no program allocates. A function of its own, since of so long an array the check can't compute the length.
 fn bytes_room() -> [u8; 524288]
     ensures { 524288 ≡ length result }
 {

@@ -108,7 +108,7 @@ impl Reader {
         })
     }
 
-    // The length of the unsent room: the cap, which is no more than there is.
+    // The length of the unsent room: the cap, which is no more than there is. (A ghost field would say so, but a field of a struct with one can't be lent by `&mut`.)
     pub(crate) fn room(&self) -> usize
         ensures { result ≤ 1024 }
     {

@@ -7,7 +7,7 @@ use numbers::{Answer, Cursor, FragmentCursor, NextNumber, Refusal};
 fn walked<F: Fn(Cursor) -> NextNumber>(line: &mut Numbers, next: F) -> Option<()>
     requires { F.IsAlwaysCallable next }
 {
-    let mut cursor = Cursor { from: 0 };
+    let mut cursor = Cursor::default();
     for _ in 0..line.next()? {
         let start = line.next()?;
         for n in start..line.next()? {
@@ -63,7 +63,7 @@ impl Reader {
         let any = self
             .proxy
             .repair_frags_requested(&self.samples, &self.words);
-        line.expect(any.yes as u64)
+        line.expect(u64::from(any.yes))
     }
 
     // The next unsent number, and the next of the pending gap.

@@ -94,8 +94,8 @@ impl Writer {
         if room.len() < payload.len() {
             return None;
         }
-        for (k, told) in payload.iter().enumerate() {
-            room[k] = (*told % 256) as u8;
+        for (byte, told) in room.iter_mut().zip(payload) {
+            *byte = (*told % 256) as u8;
         }
         // Two rooms behind `self` can't be lent at once.
         let mut lens = self.lens;
@@ -127,7 +127,7 @@ impl Writer {
         };
         is_so(told.answer.is_done())?;
         line.expect(0)?;
-        line.expect(told.yes as u64)
+        line.expect(u64::from(told.yes))
     }
 }
 

@@ -17,7 +17,7 @@ impl Writer {
         let part = found.part(store);
         line.expect(part.len() as u64)?;
         for byte in part {
-            line.expect(*byte as u64)?;
+            line.expect(u64::from(*byte))?;
         }
         Some(())
     }
@@ -26,7 +26,7 @@ impl Writer {
     fn through_shown(&self, line: &mut Numbers) -> Option<()> {
         let told = self.flow.is_acked_through(line.number()?);
         is_so(told.answer.is_done())?;
-        line.expect(told.yes as u64)
+        line.expect(u64::from(told.yes))
     }
 
     // The whole buffer: the last number and the first, and as many fetches and questions as the line says.

@@ -99,7 +99,7 @@ pub fn front_stored(list: &[ReaderHead], id: u64, head: ReaderHead) -> AckedFron
     AckedFrontier::from_rank(joined(smallest_of_others(list, id), head))
 }
 
-// The slot is stored.
+// The slot is stored. (By an index: with `get_mut` the proof didn't close.)
 pub fn store(list: &mut [ReaderHead], slot: Slot)
     ensures { list.new ≡ set list.old slot.place slot.head }
 {

@@ -43,7 +43,7 @@ impl ReaderHead {
 }
 
 impl AckedFrontier {
-    // Its natural number, raised to 1 at least; 0 stands for an absent one, as in the definitions.
+    // Its natural number, raised to 1 at least; 0 stands for an absent one, as in the definition `frontier`, which may not change.
     pub fn rank(self) -> u64
         ensures { result ≡ frontier_of self }
     {

@@ -13,7 +13,7 @@ fn has_id(list: &[ReaderHead], id: u64) -> bool
     list.iter().fold(false, |found, h| found | (h.id == id))
 }
 
-pub fn are_different(list: &[ReaderHead]) -> bool
+pub(crate) fn are_different(list: &[ReaderHead]) -> bool
     ensures { result ≡ different (readers list.now) }
 {
     // one bit for the low six bits of each id so far

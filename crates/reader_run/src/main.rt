@@ -11,9 +11,7 @@ fn reader(acked: i64, cap: usize, count: usize) -> ReaderProxy {
         all_acked_before: SequenceNumber(acked),
         unsent_cap: cap,
         unsent_count: count,
-        gap_prefix_end: SequenceNumber(0),
-        gap_count: 0,
-        frag_count: 0,
+        ..ReaderProxy::default()
     }
 }
 

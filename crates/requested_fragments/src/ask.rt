@@ -14,6 +14,7 @@ fn ask_all(words: &mut [u64], set: FragmentNumberSet)
     ensures { words.new ≡ ask_all (askable set) words.old }
 {
     let mut from: u64 = 1;
+    // Each turn goes on from the fragment that the last one found.
     while let Some(f) = set.next_rank(from, FragmentNumber::TOP) {
         bits::ask(words, f);
         from = f + 1;

@@ -1,4 +1,4 @@
-// The table of requested fragments in two rooms: sample numbers, and 64 words of bits for each. Each call answers for any rooms and any count.
+// The table of requested fragments in two rooms: sample numbers, and 64 words of bits for each. Each call answers for any rooms and any count. C lends both rooms and keeps the count in the reader's record, so the three stay apart.
 ghost use Rattle.std.specs.Prelude.{◌≡◌, ◌==◌, not, ◌++◌, ◌+◌, ◌*◌, ◌≤◌, length, take, drop, position};
 ghost use Rattle.sets.specs.Sets.{empty};
 ghost use Rattle.numbers.specs.Promise.{Gives2};

@@ -68,7 +68,7 @@ pub fn remove(s: &mut [u64], count: usize, n: u64) -> usize
     }
 }
 
-// The run from n on.
+// The run from n on. (The hints on inlining here, at `insert_newest` and at `join_newest`: measured, each call on a record takes fewer instructions so.)
 #[inline]
 pub fn keep_from(s: &mut [u64], count: usize, n: u64) -> usize
     ensures { Gives1 result s.new (in_room (from_on n) count s.old) }
@@ -131,7 +131,7 @@ pub fn insert_newest(s: &mut [u64], count: usize, n: u64) -> usize
     count
 }
 
-// The last of the `count` numbers. Where there is none, 0 stands there: unused room is zero.
+// The last of the `count` numbers. Where there is none, 0 stands there, as in the definition `run_with`: unused room is zero.
 fn last_of(s: &[u64], count: usize) -> u64
     ensures { result ≡ get_or s.now (count - 1) 0 }
 {

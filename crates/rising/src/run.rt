@@ -42,7 +42,7 @@ pub fn run_coherent(s: &[u64], count: usize, above: u64) -> bool
     count <= s.len() && rises(&s[..count], above) && all_zero(&s[count..])
 }
 
-// Whether n is among the numbers. All are compared, with no early exit: this becomes vector code, where a slice's own `contains` takes four times as long.
+// Whether n is among the numbers. All are compared, with no early exit: this becomes vector code, the rule for scans of rooms; a slice's own `contains` takes four times as long.
 pub fn contains(s: &[u64], n: u64) -> bool
     ensures { result ≡ has s.now n }
 {
@@ -53,7 +53,7 @@ pub fn contains(s: &[u64], n: u64) -> bool
     found
 }
 
-// How many numbers at the start are below n. Four are compared in a turn: 11 instructions, where `position` takes 20.
+// How many numbers at the start are below n. Four are compared in a turn: 11 instructions, where `position` takes 20 and an ACKNACK with 256 unsent misses its bar (docs/SPEED.md).
 pub fn place(s: &[u64], n: u64) -> usize
     ensures { result ≡ place_of n s.now }
 {

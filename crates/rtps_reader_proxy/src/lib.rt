@@ -1,4 +1,4 @@
-// One reader as the writer keeps it: a small proxy by value, its rooms lent.
+// One reader as the writer keeps it: a small proxy by value, its rooms lent. C lends each room by itself, so they stay parameters beside it.
 #![tactic(auto)]
 
 pub mod acks;

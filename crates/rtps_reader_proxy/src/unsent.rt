@@ -64,7 +64,7 @@ impl ReaderProxy {
         NextNumber::of(answer, next.unwrap_or(0))
     }
 
-    // The first of all: nothing is searched.
+    // The first of all, found at the room's start.
     pub fn first_unsent_change(self, unsent: &[u64]) -> NextNumber
         ensures { result ≡ next_unsent_of (cursor_at 0) self unsent.now }
     {

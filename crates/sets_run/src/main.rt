@@ -24,7 +24,7 @@ fn fragments(base: u32, count: u32, first: u32, last: u32) -> FragmentNumberSet 
     }
 }
 
-// What listing into a room of two gives, and what the room then holds.
+// What listing into a room of two gives, and what the room then holds. Once for each kind of set: they are two types, for the C interface.
 fn list(s: SequenceNumberSet) -> (Listed, [u64; 2]) {
     let mut room = [7, 7];
     (s.list_members(&mut room), room)

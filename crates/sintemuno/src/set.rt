@@ -1,4 +1,4 @@
-// Sets as RTPS writes them: made from numbers, and read.
+// Sets as RTPS writes them: made from numbers, and read. A name for each kind: C has no type parameters.
 ghost use Rattle.std.specs.Prelude.{◌≡◌};
 ghost use Rattle.numbers.specs.Promise.{Gives1};
 ghost use Rattle.number_sets.specs.Bits.{members};

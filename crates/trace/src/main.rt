@@ -7,6 +7,7 @@ use std::env::{Env, FillError};
 use std::io;
 use std::io::{Input, Read};
 use trace_answers::{Answering, figures};
+use trace_readers::Trace;
 use trace_words::put_explained;
 
 // A read that fails is told, and ends the input.
@@ -48,7 +49,8 @@ fn next_piece(
     end_line(open, piece)
 }
 
-// How far the piece goes that is to be answered: in words, one line is answered at a time.
+// How far the piece goes that is to be answered: in words, one line is answered at a time. `explain` is the program's
+// option, asked in two places: a closure for each would be lent the same rooms.
 fn reach(explain: bool, piece: &[u8], from: usize, bytes: usize) -> usize
     ensures { result ≤ length piece.now }
 {
@@ -121,13 +123,14 @@ fn to_the_end(
     Ok(())
 }
 
+// The rooms are of fixed sizes: no program allocates.
 fn run(rt: &(impl Input + Print + Eprint), explain: bool) {
     let mut piece = [0u8; 65536];
     let mut line = [0u8; 512];
     let mut out = [0u8; 65536];
-    let mut store = [0u8; 4096];
-    let mut large = [0u64; 4352];
-    let mut small = [0u64; 544];
+    let mut store = [0u8; Trace::STORE];
+    let mut large = [0u64; Trace::LARGE];
+    let mut small = [0u64; Trace::SMALL];
     let written = to_the_end(
         rt, explain, &mut piece, &mut line, &mut out, &mut store, &mut large, &mut small,
     );

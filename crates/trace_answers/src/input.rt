@@ -79,8 +79,8 @@ impl Answering {
         }
     }
 
-    // The five rooms stay parameters: what is promised of each speaks of it before and after, which a struct of `&mut`s says no plainer.
     // One line of the piece, or what the piece has of it. Where it has ended, it is followed and its answer put.
+    // The five rooms stay parameters: what is promised of each speaks of it before and after, which a struct of `&mut`s says no plainer.
     pub fn answer_line(
         self,
         piece: &[u8],

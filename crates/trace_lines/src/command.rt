@@ -7,6 +7,7 @@ ghost use Rattle.trace_lines.specs.Lines.{plain_said, line_said, said, Says, cou
 use crate::set::set;
 use crate::{field, past_key};
 
+// `count` numbers of the set stand in the room: a slice here would borrow it, and `read_line` promises what the room then holds.
 #[derive(Clone, Copy)]
 pub enum Command {
     New {

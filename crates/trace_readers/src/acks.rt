@@ -21,9 +21,8 @@ fn asked(base: u64, numbers: &[u64]) -> SequenceNumberSet
         return made.set;
     }
     SequenceNumberSet {
-        base: from,
         count: 257,
-        words: [0; 8],
+        ..SequenceNumberSet::empty(from)
     }
 }
 

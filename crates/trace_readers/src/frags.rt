@@ -26,19 +26,16 @@ fn pieces_with(base: u32, count: u32) -> FragmentNumberSet
 fn pieces(numbers: &[u64]) -> FragmentNumberSet
     ensures { result ≡ frag_set_of numbers.now }
 {
-    let n = numbers.len();
-    if n == 0 {
+    let (Some(first), Some(last)) = (numbers.first(), numbers.last()) else {
         return pieces_with(1, 0);
-    }
-    let first = numbers[0];
-    let last = numbers[n - 1];
-    if 255 < last.saturating_sub(first) {
+    };
+    if 255 < last.saturating_sub(*first) {
         return pieces_with(1, 257);
     }
-    if FragmentNumber::TOP < last {
+    if FragmentNumber::TOP < *last {
         return pieces_with(0, 0);
     }
-    FragmentNumberSet::of_numbers(FragmentNumber::from_rank(first), numbers).set
+    FragmentNumberSet::of_numbers(FragmentNumber::from_rank(*first), numbers).set
 }
 
 impl Trace {

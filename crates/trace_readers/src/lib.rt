@@ -21,7 +21,8 @@ fn reader_of(found: Found) -> usize
     found.place.min(1)
 }
 
-// Where the parts of reader i start in the rooms.
+// Where the parts of reader i start in the rooms. `i < 2` stays a clause: a struct with that fact would be taken apart in each of the definitions, which
+// speak of numbers.
 fn unsent_at(i: usize) -> usize
     requires { i < 2 }
     ensures { (result ≡ unsent_at i) × (result ≤ 1280) }

@@ -2,7 +2,7 @@
 ghost use Rattle.std.specs.Prelude.{◌≡◌, ◌<◌};
 ghost use Rattle.trace_readers.specs.State.{trace_begun, refused_by, incoherent, not_understood, reader_in};
 
-use numbers::{Answer, SequenceNumber};
+use numbers::{Answer, Refusal};
 use reader_list::ReaderHead;
 use rtps_reader_proxy::ReaderProxy;
 use writer_send_buffer::WriterSendBuffer;
@@ -16,7 +16,7 @@ pub struct Trace {
     pub readers: [ReaderProxy; 2],
 }
 
-// What a line is answered, and what the trace then keeps.
+// What a line is answered, and what the trace then keeps. Both stand in either case: no Result.
 #[derive(Clone, Copy)]
 pub struct Followed {
     pub answer: Answer,
@@ -26,6 +26,7 @@ pub struct Followed {
 impl Trace {
     // What is asked of the rooms' lengths is asked once for a line, by its public function, and passed on as a `requires`: a `&mut [u64; N]` by
     // `try_from` is a loan out of a slice in a Result, of which a caller's proof learns nothing (no proof closes).
+
     // The large room: the lengths of as many samples as a writer can have, then the unsent numbers of each reader, then the words of
     // fragment bits of each.
     pub const SLOTS: usize = 256;
@@ -50,11 +51,7 @@ impl Trace {
     pub fn start() -> Trace
         ensures { result ≡ trace_begun }
     {
-        let free = ReaderHead {
-            id: 0,
-            reliable: false,
-            acked: SequenceNumber::from_rank(0),
-        };
+        let free = ReaderHead::FREE;
         let fresh = ReaderProxy::new(ReaderProxy::DEFAULT_UNSENT_CAP).proxy;
         Trace {
             started: false,
@@ -85,7 +82,7 @@ impl Trace {
     pub fn incoherent(self) -> Followed
         ensures { result ≡ refused_by incoherent self }
     {
-        self.refused(Answer::coherence(false))
+        self.refused(Answer::refused(Refusal::Incoherent))
     }
 
     // "Trace line not understood".

@@ -43,6 +43,7 @@ fn told(head: ReaderHead, proxy: ReaderProxy, unsent: &mut [u64], n: SequenceNum
     proxy.notify_new_cache_change(unsent, n).proxy
 }
 
+// As in trace_readers, whose own ask for `i < 2`: no public function asks anything of its callers.
 fn reader(i: usize, trace: Trace) -> ReaderProxy
     requires { i < 2 }
     ensures { result ≡ reader_in i trace }

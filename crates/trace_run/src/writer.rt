@@ -22,7 +22,7 @@ pub fn new_step(trace: Trace, window: u64, backlog: u64, retain: u64, slots: u64
         backlog,
         retain,
         slots,
-        slot_bytes: 16,
+        slot_bytes: Trace::SLOT_BYTES as u64,
     };
     let made = WriterSendBuffer::new(kind, limits);
     if !made.answer.is_done() {
@@ -45,7 +45,7 @@ pub fn match_step(mut trace: Trace, id: u64) -> Followed
     let m = Match {
         id,
         reliable: true,
-        cap: 1024,
+        cap: Match::MOST_CAP,
     };
     let told = match_reader(&mut trace.heads, &mut trace.flow, m);
     trace.started = true;

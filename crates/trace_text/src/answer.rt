@@ -29,10 +29,11 @@ fn digit(d: u64) -> u8
     requires { d < 10 }
     ensures { result ≡ 48 + d }
 {
-    48 + d as u8
+    b'0' + d as u8
 }
 
-// At most `most` digits, the highest first.
+// By hand and no `write!`: what the room has no place for is left out, and std's clauses say little of a writer that is full. At most `most` digits, the
+// highest first.
 fn put_digits(out: &mut [u8], at: usize, n: u64, most: usize) -> usize
     ensures { Gives1 result out.new (put_of at (digits most n) out.old) }
 {
@@ -76,5 +77,5 @@ pub fn put_answer(out: &mut [u8], at: usize, line: u64, answer: u64, figures: Fi
     let k = put_field(out, k, b" last=", figures.last);
     let k = put_field(out, k, b" first=", figures.first);
     let k = put_field(out, k, b" acked=", figures.acked);
-    put_byte(out, k, 10)
+    put_byte(out, k, b'\n')
 }

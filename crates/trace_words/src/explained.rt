@@ -41,5 +41,5 @@ pub fn put_explained(
     let k = put_numbered(out, k, answer);
     let k = put_text(out, k, b"\n    ");
     let k = put_figures(out, k, told);
-    put_byte(out, k, 10)
+    put_byte(out, k, b'\n')
 }

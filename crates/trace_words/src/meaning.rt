@@ -6,6 +6,7 @@ ghost use Rattle.trace_words.specs.Words.{meaning};
 
 use trace_text::answer::put_text;
 
+// By the number, which is what an answer holds, as C sees it: to match by name, a table from numbers to names would come first.
 fn meaning(number: u32) -> &'static [u8]
     ensures { result.now ≡ meaning number }
 {

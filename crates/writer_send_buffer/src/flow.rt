@@ -9,7 +9,7 @@ ghost use Rattle.writer_send_buffer.specs.Buffer.{questioned, numbered_no, has_r
 use crate::limits::{Kind, Limits};
 use numbers::{Answer, Refusal, SequenceNumber, Told};
 
-// The flow record. The payloads stand in a lent store beside it.
+// The flow record, as C sees it: so `present` stands beside `acked`, and no Option. The payloads stand in a lent store beside it.
 #[repr(C)]
 #[derive(Clone, Copy, Debug, Default, PartialEq, Eq)]
 pub struct WriterSendBuffer {

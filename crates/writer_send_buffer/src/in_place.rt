@@ -17,7 +17,7 @@ impl WriterSendBuffer {
     ) -> Numbered
         ensures { Gives3 result self.new store.new lens.new (admit_of self.old store.old lens.old payload.now opted) }
     {
-        let m = WriterSendBuffer::with_sample(*self, store, lens, payload, opted);
+        let m = self.with_sample(store, lens, payload, opted);
         *self = m.flow;
         m.numbered
     }
@@ -26,7 +26,7 @@ impl WriterSendBuffer {
     pub fn set_acked_frontier(&mut self, frontier: AckedFrontier) -> Told
         ensures { Gives1 result self.new (acked_of self.old frontier) }
     {
-        let m = WriterSendBuffer::with_acked_frontier(*self, frontier);
+        let m = self.with_acked_frontier(frontier);
         *self = m.flow;
         m.told
     }
@@ -35,7 +35,7 @@ impl WriterSendBuffer {
     pub fn set_sent_frontier(&mut self, number: SequenceNumber) -> Told
         ensures { Gives1 result self.new (sent_of self.old number) }
     {
-        let m = WriterSendBuffer::with_sent_frontier(*self, number);
+        let m = self.with_sent_frontier(number);
         *self = m.flow;
         m.told
     }
@@ -43,7 +43,7 @@ impl WriterSendBuffer {
     pub fn remove_changes_before(&mut self, before: SequenceNumber) -> Answer
         ensures { Gives1 result self.new (evict_of self.old before) }
     {
-        let m = WriterSendBuffer::with_changes_removed(*self, before);
+        let m = self.with_changes_removed(before);
         *self = m.flow;
         m.answer
     }

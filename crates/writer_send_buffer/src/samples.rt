@@ -1,4 +1,4 @@
-// The retained samples: a lent store of `slots` times `slot_bytes` bytes, and a lent room of `slots` lengths.
+// The retained samples: a lent store of `slots` times `slot_bytes` bytes, and a lent room of `slots` lengths. C lends each by itself, so they stay parameters.
 ghost use Rattle.std.specs.Prelude.{◌≡◌, ◌*◌, length, set};
 ghost use Rattle.numbers.specs.Refusals.{answer_of};
 ghost use Rattle.numbers.specs.Promise.{Gives2};
@@ -8,7 +8,7 @@ ghost use Rattle.writer_send_buffer.specs.Samples.{SlotRun, Slot, with_bytes, le
 use crate::at_most::all_at_most;
 use crate::flow::{Numbered, WriterSendBuffer};
 use crate::limits::Limits;
-use numbers::{Answer, SequenceNumber};
+use numbers::{Answer, Refusal, SequenceNumber};
 
 // What a write is answered, with the record as it then is.
 #[repr(C)]
@@ -139,13 +139,13 @@ impl WriterSendBuffer {
         let n = number.rank();
         if !self.has_place(lens.len(), n) {
             return Located {
-                answer: Answer::found(true, true),
+                answer: Answer::refused(Refusal::Nothing),
                 ..Located::default()
             };
         }
         let slot = (n.saturating_sub(1) % self.limits.slots) as usize;
         Located {
-            answer: Answer::found(true, false),
+            answer: Answer::done(),
             start: slot * self.limits.slot_bytes as usize,
             length: lens[slot] as usize,
         }
@@ -157,7 +157,7 @@ impl WriterSendBuffer {
     {
         if !self.is_coherent_store(room, lens) {
             return Located {
-                answer: Answer::coherence(false),
+                answer: Answer::refused(Refusal::Incoherent),
                 ..Located::default()
             };
         }

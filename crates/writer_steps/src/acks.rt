@@ -70,13 +70,8 @@ pub fn take_ack_nack(
     );
     let moved = after(nacked.answer, woken, *flow);
     if moved.told.answer.is_done() {
-        store(
-            list,
-            Slot {
-                place: found.place,
-                head,
-            },
-        );
+        let place = found.place;
+        store(list, Slot { place, head });
     }
     *flow = moved.flow;
     AckTold {

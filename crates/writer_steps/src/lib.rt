@@ -1,4 +1,4 @@
-// What a server runs: the steps of the writer, each of several calls under one answer.
+// What a server runs: the steps of the writer, each of several calls under one answer. Their parameters are those of the entries in C, which lends each room by itself.
 #![tactic(auto)]
 
 pub mod acks;

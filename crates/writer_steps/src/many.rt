@@ -4,7 +4,7 @@ ghost use Rattle.numbers.specs.Promise.{Gives4};
 ghost use Rattle.rising.specs.Runs.{filled};
 ghost use Rattle.writer_steps.specs.Many.{located_start, start_for, length_for, Placeable, send_many_of};
 
-use numbers::{Answer, SequenceNumber};
+use numbers::{Answer, Refusal, SequenceNumber};
 use rtps_reader_proxy::ReaderProxy;
 use writer_send_buffer::{Located, WriterSendBuffer};
 
@@ -64,7 +64,7 @@ pub fn send_many(
 {
     if !flow.is_coherent_store(room, lens) {
         return SentMany {
-            answer: Answer::coherence(false),
+            answer: Answer::refused(Refusal::Incoherent),
             count: 0,
             proxy,
         };

@@ -15,6 +15,7 @@ pub fn put_all(proxies: &mut [ReaderProxy], unsent: &mut [u64], numbered: Number
         return numbered;
     }
     let n = numbered.number.rank();
+    // Not by `chunks_mut`: a stretch may have no place at all, and `chunks_mut` asks for one.
     let stride = stride_of(proxies.len(), unsent);
     for (i, proxy) in proxies.iter_mut().enumerate() {
         let start = i * stride;
