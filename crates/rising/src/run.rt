@@ -79,7 +79,7 @@ pub fn holds_at(s: &[u64], i: usize, n: u64) -> bool
     s.get(i).is_some_and(|x| *x == n)
 }
 
-// The first k go, and zeros come in at the end. What stays moves down over itself: std has no copy_within, and a rotation takes up to five times as long.
+// The first k go, and zeros come in at the end. What stays moves down over itself.
 pub fn drop_front(s: &mut [u64], k: usize)
     ensures { s.new ≡ drop k s.old ++ replicate (min k (length s.old)) 0 }
 {
@@ -88,9 +88,7 @@ pub fn drop_front(s: &mut [u64], k: usize)
     }
     let gone = k.min(s.len());
     let stay = s.len() - gone;
-    for i in 0..stay {
-        s[i] = s[i + k];
-    }
+    s.copy_within(gone.., 0);
     s[stay..].fill(0);
 }
 
@@ -101,10 +99,9 @@ pub fn lift(s: &mut [u64], k: usize)
     if k == 0 {
         return;
     }
-    for i in (k..s.len()).rev() {
-        s[i] = s[i - k];
-    }
     let gone = k.min(s.len());
+    let stay = s.len() - gone;
+    s.copy_within(..stay, gone);
     s[..gone].fill(0);
 }
 
