@@ -48,6 +48,33 @@ pub(crate) struct Ranks {
 }
 
 impl WriterSendBuffer {
+    // The record of the natural numbers given. A public method, with its seven parameters: what may not change.
+    pub fn formed(
+        last: u64,
+        first: u64,
+        sent: u64,
+        acked: u64,
+        present: bool,
+        kind: Kind,
+        limits: Limits,
+    ) -> WriterSendBuffer
+        ensures { result ≡ flow_form (record { last = last; first = first; sent = sent; acked = acked; present = present; kind = kind; limits = limits }) }
+    {
+        let n = Ranks {
+            last,
+            first,
+            sent,
+            acked,
+        };
+        let blank = WriterSendBuffer {
+            present,
+            kind,
+            limits,
+            ..WriterSendBuffer::default()
+        };
+        blank.with_ranks(n)
+    }
+
     // The record with these numbers.
     pub(crate) fn with_ranks(self, n: Ranks) -> WriterSendBuffer
         ensures { result ≡ flow_form (record { last = n.last; first = n.first; sent = n.sent; acked = n.acked; present = self.present; kind = self.kind; limits = self.limits }) }
