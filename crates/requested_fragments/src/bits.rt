@@ -1,5 +1,5 @@
 // The bits of a sample's requested fragments, in words: fragment f, from 1 on, is the bit of worth 2 ^ ((f - 1) mod 64) in word (f - 1) div 64.
-ghost use Rattle.std.specs.Prelude.{◌≡◌, not, ◌^◌, ◌<◌, ◌≤◌, length, take};
+ghost use Rattle.std.specs.Prelude.{◌≡◌, not, ◌-◌, ◌/◌, ◌%◌, ◌^◌, ◌<◌, ◌≤◌, ◌↔◌, IsNone, IfSome, length, take};
 ghost use Rattle.sets.specs.Sets.{has, empty};
 ghost use Rattle.requested_fragments.specs.Words.{fragments_of, asking, not_asking, next_in};
 
@@ -12,32 +12,37 @@ fn worth(k: u64) -> u64
     1u64 << k
 }
 
+// The word of fragment f, and its bit there; 0 has none.
+fn bit_of(f: u64) -> Option<(usize, u64)>
+    ensures none { IsNone result ↔ (f ≡ 0) }
+    ensures place { IfSome result (λ b. (b.0 ≡ (f - 1) / 64) × (b.1 ≡ (f - 1) % 64)) }
+{
+    let p = f.checked_sub(1)?;
+    Some(((p / 64) as usize, p % 64))
+}
+
 // Whether fragment f is asked for, whatever its number.
 pub fn asks(words: &[u64], f: u64) -> bool
     ensures { result ≡ has (fragments_of words.now) f }
 {
-    if f == 0 {
+    let Some((i, k)) = bit_of(f) else {
         return false;
-    }
-    let p = f - 1;
-    let i = (p / 64) as usize;
+    };
     if words.len() <= i {
         return false;
     }
-    (words[i] >> (p % 64)) % 2 == 1
+    (words[i] >> k) % 2 == 1
 }
 
 // Fragment f is asked for; a number that the words have no bit for changes nothing.
 pub fn ask(words: &mut [u64], f: u64)
     ensures { words.new ≡ asking f words.old }
 {
-    if f == 0 {
+    let Some((i, k)) = bit_of(f) else {
         return;
-    }
-    let p = f - 1;
-    let i = (p / 64) as usize;
+    };
     if i < words.len() {
-        words[i] |= worth(p % 64);
+        words[i] |= worth(k);
     }
 }
 
@@ -45,10 +50,11 @@ pub fn ask(words: &mut [u64], f: u64)
 pub fn unask(words: &mut [u64], f: u64)
     ensures { words.new ≡ not_asking f words.old }
 {
-    if asks(words, f) {
-        let p = f - 1;
-        let i = (p / 64) as usize;
-        words[i] ^= worth(p % 64);
+    if !asks(words, f) {
+        return;
+    }
+    if let Some((i, k)) = bit_of(f) {
+        words[i] ^= worth(k);
     }
 }
 
