@@ -1,4 +1,5 @@
 -- Laws that belong to no one function.
+pub mod Any
 pub mod Bit
 pub mod First
 pub mod Eight

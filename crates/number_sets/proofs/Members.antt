@@ -3,7 +3,7 @@ use Prim.Native.Nat.{ℕ, ◌+◌, ◌-◌, ◌^◌, ◌≤◌, ◌<◌, min}
 use mathlib.Core.Path.{◌≡◌, refl, sym, ap, ◌∙◌}
 use mathlib.Core.Bool.{Bool, true, false, ◌&&◌, ◌||◌, true≢false}
 use mathlib.Core.List.{List}
-use Rattle.std.specs.Prelude.{Some, None, slice_get}
+use Rattle.std.specs.Prelude.{Option, Some, None, slice_get, unwrap_or}
 use Rattle.std.specs.Bool.{then_some}
 use mathlib.Core.Logic.{◌⊎◌, inl, inr}
 use lib.Dec.{ltb, leb}
@@ -174,3 +174,26 @@ module _ (k b : ℕ) (ws : List ℕ) (c top : ℕ) where
     -- nor does any number go past the 64-bit ones
     pub next-past : top < 2 ^ 64 → (b + i < 2 ^ 64 → ⊥) → None ≡ slice_get (between c top (marked k b ws)) 0
     next-past t z = next-over (omega arith)
+
+  -- the count stands for no bit
+  module _ (i : ℕ) (e : i ≡ unwrap_or (next_bit ws k (c - b)) k) where
+    pub next-is : then_some (ltb i k && leb (b + i) top) (b + i) ≡ slice_get (between c top (marked k b ws)) 0
+    next-is = go (next_bit ws k (c - b)) refl
+      where
+        go : (o : Option ℕ) → next_bit ws k (c - b) ≡ o → then_some (ltb i k && leb (b + i) top) (b + i) ≡ slice_get (between c top (marked k b ws)) 0
+        go None q =
+            let z : i ≡ k = e ∙ ap (λ (o : Option ℕ). unwrap_or o k) q in
+            ap (λ (t : Bool). then_some (t && leb (b + i) top) (b + i)) (le-ltb i k (omega arith)) ∙ next-none q
+        go (Some j) q =
+            let z : i ≡ j = e ∙ ap (λ (o : Option ℕ). unwrap_or o k) q in
+            let f = q ∙ ap (λ (x : ℕ). Some x) (sym z) in
+            ap (λ (t : Bool). then_some (t && leb (b + i) top) (b + i)) (lt-ltb i k (next i f).high) ∙ next-here i f
+
+    pub next-off : top < 2 ^ 64 → (b + i < 2 ^ 64 → ⊥) → None ≡ slice_get (between c top (marked k b ws)) 0
+    next-off t y = go (next_bit ws k (c - b)) refl
+      where
+        go : (o : Option ℕ) → next_bit ws k (c - b) ≡ o → None ≡ slice_get (between c top (marked k b ws)) 0
+        go None q = next-none q
+        go (Some j) q =
+            let z : i ≡ j = e ∙ ap (λ (o : Option ℕ). unwrap_or o k) q in
+            next-past i (q ∙ ap (λ (x : ℕ). Some x) (sym z)) t y

@@ -8,6 +8,7 @@ ghost use Rattle.number_sets.specs.Calls.{set_rows, some_below, some_from};
 
 use crate::sequence_number_set::Listed;
 use numbers::{Answer, Refusal};
+use rising::run::TOP;
 
 #[derive(Clone, Copy, Debug, PartialEq, Eq)]
 pub struct NumberSet {
@@ -26,17 +27,34 @@ pub(crate) fn set_answer(bits: bool, range: bool, none: bool) -> Answer
         .unless(bits, Refusal::Bits)
 }
 
-// Whether any number is below b, and whether any is b or more.
+// Whether any number is below b, and whether any is b or more. For a b below 2 ^ 63 every number is looked at, with no exit, and nothing is tested in a turn: this
+// becomes vector code, by the top bit of a difference that wraps; a plain or of comparisons takes a third longer.
 pub(crate) fn any_below(b: u64, numbers: &[u64]) -> bool
     ensures { result ≡ some_below b numbers.now }
 {
-    numbers.iter().any(|n| *n < b)
+    if TOP <= b {
+        return numbers.iter().any(|n| *n < b);
+    }
+    let mut low = 0;
+    for n in numbers {
+        low |= !*n & n.wrapping_sub(b);
+    }
+    TOP <= low
 }
 
 pub(crate) fn any_from(b: u64, numbers: &[u64]) -> bool
     ensures { result ≡ some_from b numbers.now }
 {
-    numbers.iter().any(|n| b <= *n)
+    if TOP <= b {
+        return numbers.iter().any(|n| b <= *n);
+    }
+    let mut high = 0;
+    let mut low = u64::MAX;
+    for n in numbers {
+        high |= *n;
+        low &= n.wrapping_sub(b);
+    }
+    TOP <= high | !low
 }
 
 // How much of word j stands before the bit at `place`: 0 to 32 bits.
@@ -112,13 +130,15 @@ impl NumberSet {
         None
     }
 
-    // The smallest member from `from` through `top`, whatever these are.
+    // The smallest member from `from` through `top`, whatever these are. Where no bit is left, i is the count, which is no place.
     pub(crate) fn next_rank(&self, from: u64, top: u64) -> Option<u64>
         ensures { result ≡ next_rank self.now from top }
     {
-        let i = self.next_bit(from.saturating_sub(self.base) as usize)?;
+        let count = self.count as usize;
+        let found = self.next_bit(from.saturating_sub(self.base) as usize);
+        let i = found.unwrap_or(count);
         let n = self.base.checked_add(i as u64)?;
-        (n <= top).then_some(n)
+        ((i < count) & (n <= top)).then_some(n)
     }
 
     // The members, rising, in a room from its start, as far as they fit; how many they are in all.

@@ -45,7 +45,7 @@ or_top a b = go (decide (ltb a top)) (decide (ltb b top))
     go (inl p) (inr q) = rw (p, q) (le-ltb (bit_or a b) top (omega (arith, or_add_and a b, and_le_l a b, ltb-false b top q)))
     go (inr p) q = rw p (le-ltb (bit_or a b) top (omega (arith, or_add_and a b, and_le_r a b, ltb-false a top p)))
 
-both_top : (a b : ℕ) → top ≤ a → a < 18446744073709551616 → top ≤ b → b < 18446744073709551616 → top ≤ bit_and a b
+pub both_top : (a b : ℕ) → top ≤ a → a < 18446744073709551616 → top ≤ b → b < 18446744073709551616 → top ≤ bit_and a b
 both_top a b p q r s =
     let x = a - top in
     let y = b - top in

@@ -6,7 +6,7 @@ ghost use Rattle.rising.specs.Runs.{rises_above, zeros, run_coherent, place_of, 
 use numbers::SequenceNumber;
 
 // The first number with the top bit.
-const TOP: u64 = 1 << 63;
+pub const TOP: u64 = 1 << 63;
 
 // Whether the numbers rise strictly, all above `above` and none above 2 ^ 63 - 2. Of numbers below 2 ^ 63 the smaller is seen by the top bit of a difference
 // that wraps: nothing is tested in a turn, and this becomes vector code. Both are read by an index, since a zip of two slices takes a tenth longer.
