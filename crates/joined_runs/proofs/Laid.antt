@@ -4,10 +4,10 @@ use mathlib.Core.Path.{◌≡◌, refl, sym, ap, ◌∙◌}
 use mathlib.Core.Bool.{Bool, true, false}
 use mathlib.Core.List.{List, [], ◌++◌, append-nil, append_assoc}
 use native.Mathlib.Omega.{arith}
-use lib.Dec.{leb}
+use lib.Dec.{leb, eqb}
 use lib.ListN.{length, take, drop, replicate, length-take, length-drop, length-append, length-replicate}
 use lib.Seq.{take_all, length-take-le, take-take, drop-drop, drop_at, take-append-le, take-append-add, drop-append-le}
-use borrow.Author.Tests.{leb-true, leb-false, le-leb, le-ltb, ne_eqb}
+use borrow.Author.Tests.{leb-true, leb-false, le-leb, le-ltb, eq-eqb, ne_eqb}
 use Rattle.sets.specs.Sets.{smallest}
 use Rattle.sets.proofs.Loops.{done}
 use Rattle.numbers.specs.Number.{rank_of, negative}
@@ -18,7 +18,7 @@ use Rattle.number_sets.specs.Bits.{members}
 use Rattle.number_sets.specs.Calls.{sequence_set, joined_set, sequence_rows, set_rows, members_listed, all_listed}
 use Rattle.number_sets.proofs.Meaning.{span_window}
 use Rattle.rising.specs.Runs.{over, in_room, place_of, filled}
-use Rattle.rising.proofs.Rooms.{drop-take}
+use Rattle.rising.proofs.Rooms.{drop-take, room-same}
 use Rattle.rising.proofs.Inserts.{place_le}
 use Rattle.joined_runs.specs.Joined.{replaced, grown, end_in, lying, with_members, laid_in, resized, Within, Listable}
 
@@ -156,6 +156,12 @@ module _ (p q count : ℕ) (a : List ℕ) (set : SequenceNumberSet) (w : Within 
 
   -- whether they are more than stood there, by what the code counted
   module _ (n : ℕ) (e : n ≡ length N) where
+    pub grown-none : n ≡ q - p → Gives1 count a (laid_in count a (grown p q N l))
+    grown-none f =
+        let z : eqb (length N) (q - p) ≡ true = eq-eqb (length N) (q - p) (sym e ∙ f) in
+        let s : smallest (length a) l ≡ l = take_all (length a) l (omega (arith, ll, w.fits)) in
+        rw (z, s) (record { result = sym ll; first = room-same count a w.fits })
+
     pub grown-some : (n ≡ q - p → ⊥) → (r : ℕ) (u : List ℕ) → Gives1 r u (laid_in count a (replaced p q N l)) → Gives1 r u (laid_in count a (grown p q N l))
     grown-some f r u g = rw (ne_eqb (length N) (q - p) (λ x. f (e ∙ x))) g
 

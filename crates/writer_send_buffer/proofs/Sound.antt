@@ -19,7 +19,7 @@ use Rattle.writer_send_buffer.specs.declared.flow.WriterSendBuffer.{WriterSendBu
 use Rattle.writer_send_buffer.specs.declared.samples.Located.{Located}
 use Rattle.writer_send_buffer.specs.Flow.{Flow, all_of, limit_rows, allowed, coherent_rows, flow_view_coherent, has_room, full, retained}
 use Rattle.writer_send_buffer.specs.Buffer.{flow_view, flow_coherent}
-use Rattle.writer_send_buffer.specs.Samples.{lengths_fit, store_rows, store_coherent, write_rows, slot_of, slot_start, fetch_rows, locate_of}
+use Rattle.writer_send_buffer.specs.Samples.{lengths_fit, store_rows, store_coherent, write_rows, slot_of, slot_start, fetch_rows, bytes_of, locate_of, part_of, sample_shown, none_shown, fetch_of}
 use Rattle.writer_send_buffer.proofs.Slots.{slot_in}
 
 pub holds : (bs : List Bool) → all_of bs ≡ true → (i : ℕ) → get_or bs i true ≡ true
@@ -213,3 +213,10 @@ module _ (f : WriterSendBuffer) (space : ℕ) (lens : List ℕ) (n : SequenceNum
           let k = fetched-is f space lens n (answer_of (fetch_rows f space lens n)) refl (eqb-true _ _ e) in
           sample_in f space lens k.sound (rank_of n) k.low k.high
       go false e = omega arith
+
+  fetched-there : (s : List ℕ) → length s ≡ space → record { answer = (locate_of f space lens n).answer; bytes = part_of (locate_of f space lens n) s } ≡ fetch_of f s lens n
+  fetched-there s q = rw q (go (is_done (answer_of (fetch_rows f space lens n))))
+    where
+      go : (t : Bool) → record { answer = (cond t found gone).answer; bytes = part_of (cond t found gone) s } ≡ cond t (sample_shown (bytes_of (flow_view f) s lens (rank_of n))) (none_shown (answer_of (fetch_rows f space lens n)))
+      go true = refl
+      go false = refl
