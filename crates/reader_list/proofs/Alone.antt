@@ -8,6 +8,8 @@ use lib.Arith.{bin_ind}
 use lib.Bits.{bit_or, or_step, or_comm, or_self}
 use lib.Dec.{eqb}
 use borrow.Author.Tests.{eqb-true, eq-eqb, eqb-false, ne_eqb}
+use Rattle.std.specs.List.{list_any}
+use Rattle.std.proofs.lemmas.List.Folds.{list_any-append}
 use Rattle.sets.proofs.Bools.{or_assoc, or_no, and_yes}
 use Rattle.reader_list.specs.declared.heads.ReaderHead.{ReaderHead}
 use Rattle.reader_list.specs.Readers.{is_there, different}
@@ -41,10 +43,14 @@ or_still a b c e = or_all a c b ∙ ap (bit_or a) (or_comm c b) ∙ sym (or_all 
 abbrev pub id_bit : ℕ → ℕ
 id_bit i = 1 * 2 ^ (i % 64) % 18446744073709551616
 
--- ---- what is known of the slots so far: of each id among them the bit is there, and whether all are different
+-- ---- what is known of the slots so far: of each reader's id among them the bit is there, and whether all are different
 pub record Known (hs : List ReaderHead) (low : ℕ) (all : Bool) : Type 0 where
-  pub has_bit : (i : ℕ) → is_there i (readers hs) ≡ true → bit_or low (id_bit i) ≡ low
+  pub has_bit : (i : ℕ) → (i ≡ 0 → ⊥) → is_there i (readers hs) ≡ true → bit_or low (id_bit i) ≡ low
   pub all_is : all ≡ different (readers hs)
+
+-- and of the ids gathered: they are those of the readers among the slots
+pub record Gathered (hs : List ReaderHead) (ids : List ℕ) : Type 0 where
+  pub same : (i : ℕ) → (i ≡ 0 → ⊥) → list_any (λ j. eqb j i) ids ≡ is_there i (readers hs)
 
 -- ---- one slot more
 there_more : (i : ℕ) (hs : List ReaderHead) (h : ReaderHead) → is_there i (readers (hs ++ h ∷ [])) ≡ (is_there i (readers hs) || eqb h.id i)
@@ -83,38 +89,46 @@ different_more (x ∷ hs) h =
         let f' : f ≡ false = sym q ∙ ne_eqb x.id h.id (λ e. eqb-false h.id x.id p (sym e)) in
         rw f' (other_id z w a b d)
 
--- where its bit is new, or it is free, a slot stands alone
-new_alone : (hs : List ReaderHead) (h : ReaderHead) (low : ℕ) → ((i : ℕ) → is_there i (readers hs) ≡ true → bit_or low (id_bit i) ≡ low)
-    → ((bit_or low (id_bit h.id) ≡ low) → h.id ≡ 0) → (eqb h.id 0 || not (is_there h.id (readers hs))) ≡ true
-new_alone hs h low k n = go (is_there h.id (readers hs)) refl
+-- a reader whose bit is new stands alone
+new_alone : (hs : List ReaderHead) (i low : ℕ) → (is_there i (readers hs) ≡ true → bit_or low (id_bit i) ≡ low) → (bit_or low (id_bit i) ≡ low → ⊥) → is_there i (readers hs) ≡ false
+new_alone hs i low k n = go (is_there i (readers hs)) refl
   where
-    yes : (b : Bool) → (b || true) ≡ true
-    yes true = refl
-    yes false = refl
+    go : (t : Bool) → is_there i (readers hs) ≡ t → t ≡ false
+    go false e = refl
+    go true e = absurd (n (k e))
 
-    go : (t : Bool) → is_there h.id (readers hs) ≡ t → (eqb h.id 0 || not t) ≡ true
-    go false e = yes (eqb h.id 0)
-    go true e = ap (λ (b : Bool). b || false) (eq-eqb h.id 0 (n (k h.id e)))
+-- a free slot changes nothing
+there_free : (i : ℕ) (hs : List ReaderHead) (h : ReaderHead) → h.id ≡ 0 → (i ≡ 0 → ⊥) → is_there i (readers (hs ++ h ∷ [])) ≡ is_there i (readers hs)
+there_free i hs h z n = there_more i hs h ∙ ap (λ (b : Bool). is_there i (readers hs) || b) (ne_eqb h.id i (λ e. n (sym e ∙ z))) ∙ or_no (is_there i (readers hs))
 
-low_more : (hs : List ReaderHead) (h : ReaderHead) (low : ℕ) → ((i : ℕ) → is_there i (readers hs) ≡ true → bit_or low (id_bit i) ≡ low)
-    → (i : ℕ) → is_there i (readers (hs ++ h ∷ [])) ≡ true → bit_or (bit_or low (id_bit h.id)) (id_bit i) ≡ bit_or low (id_bit h.id)
-low_more hs h low k i e = go (is_there i (readers hs)) refl (sym (there_more i hs h) ∙ e)
-  where
-    go : (t : Bool) → is_there i (readers hs) ≡ t → (t || eqb h.id i) ≡ true → bit_or (bit_or low (id_bit h.id)) (id_bit i) ≡ bit_or low (id_bit h.id)
-    go true q n = or_still low (id_bit i) (id_bit h.id) (k i q)
-    go false q n = ap (λ (j : ℕ). bit_or (bit_or low (id_bit h.id)) (id_bit j)) (sym (eqb-true h.id i n)) ∙ or_in low (id_bit h.id)
+pub known_free : (hs : List ReaderHead) (h : ReaderHead) (low : ℕ) (all : Bool) → h.id ≡ 0 → Known hs low all → Known (hs ++ h ∷ []) low all
+known_free hs h low all z k = record {
+  has_bit = λ i n e. k.has_bit i n (sym (there_free i hs h z n) ∙ e);
+  all_is = k.all_is ∙ sym (and_yes (different (readers hs))) ∙ (λ i. different (readers hs) && (sym (eq-eqb h.id 0 z) i || not (is_there h.id (readers hs)))) ∙ sym (different_more hs h);
+}
 
--- and whether it does is asked only where its bit was there
-pub known_more : (hs : List ReaderHead) (h : ReaderHead) (low : ℕ) (all new : Bool) → Known hs low all
-    → ((bit_or low (id_bit h.id) ≡ low) → (h.id ≡ 0 → ⊥) → new ≡ (all && not (is_there h.id (readers hs))))
-    → (((bit_or low (id_bit h.id) ≡ low) → h.id ≡ 0) → new ≡ all)
+pub gathered_free : (hs : List ReaderHead) (ids : List ℕ) (h : ReaderHead) → h.id ≡ 0 → Gathered hs ids → Gathered (hs ++ h ∷ []) ids
+gathered_free hs ids h z g = record { same = λ i n. g.same i n ∙ sym (there_free i hs h z n) }
+
+-- a reader's id is gathered; and whether it is among those before it is asked only where its bit was there
+pub gathered_more : (hs : List ReaderHead) (ids : List ℕ) (h : ReaderHead) → Gathered hs ids → Gathered (hs ++ h ∷ []) (ids ++ h.id ∷ [])
+gathered_more hs ids h g = record { same = λ i n. list_any-append (λ j. eqb j i) ids (h.id ∷ []) ∙ (λ p. g.same i n p || or_no (eqb h.id i) p) ∙ sym (there_more i hs h) }
+
+pub known_more : (hs : List ReaderHead) (h : ReaderHead) (low : ℕ) (all new : Bool) → (h.id ≡ 0 → ⊥) → Known hs low all
+    → ((bit_or low (id_bit h.id) ≡ low) → new ≡ (all && not (is_there h.id (readers hs))))
+    → (((bit_or low (id_bit h.id) ≡ low) → ⊥) → new ≡ all)
     → Known (hs ++ h ∷ []) (bit_or low (id_bit h.id)) new
-known_more hs h low all new k asked alone = record { has_bit = low_more hs h low k.has_bit; all_is = go (eqb (bit_or low (id_bit h.id)) low) refl (eqb h.id 0) refl ∙ sym (different_more hs h) }
+known_more hs h low all new z k asked alone = record {
+  has_bit = λ i n e. low_more i n (is_there i (readers hs)) refl (sym (there_more i hs h) ∙ e);
+  all_is = go (eqb (bit_or low (id_bit h.id)) low) refl ∙ (λ p. different (readers hs) && (sym (ne_eqb h.id 0 z) p || not (is_there h.id (readers hs)))) ∙ sym (different_more hs h);
+}
   where
-    as_it_was : ((bit_or low (id_bit h.id) ≡ low) → h.id ≡ 0) → new ≡ (different (readers hs) && (eqb h.id 0 || not (is_there h.id (readers hs))))
-    as_it_was n = alone n ∙ k.all_is ∙ sym (and_yes (different (readers hs))) ∙ ap (λ (b : Bool). different (readers hs) && b) (sym (new_alone hs h low k.has_bit n))
+    low_more : (i : ℕ) → (i ≡ 0 → ⊥) → (t : Bool) → is_there i (readers hs) ≡ t → (t || eqb h.id i) ≡ true → bit_or (bit_or low (id_bit h.id)) (id_bit i) ≡ bit_or low (id_bit h.id)
+    low_more i n true q e = or_still low (id_bit i) (id_bit h.id) (k.has_bit i n q)
+    low_more i n false q e = ap (λ (j : ℕ). bit_or (bit_or low (id_bit h.id)) (id_bit j)) (sym (eqb-true h.id i e)) ∙ or_in low (id_bit h.id)
 
-    go : (t : Bool) → eqb (bit_or low (id_bit h.id)) low ≡ t → (z : Bool) → eqb h.id 0 ≡ z → new ≡ (different (readers hs) && (eqb h.id 0 || not (is_there h.id (readers hs))))
-    go true e true q = as_it_was (λ w. eqb-true h.id 0 q)
-    go true e false q = asked (eqb-true _ low e) (eqb-false h.id 0 q) ∙ (λ i. k.all_is i && (sym q i || not (is_there h.id (readers hs))))
-    go false e z q = as_it_was (λ w. absurd (eqb-false _ low e w))
+    go : (t : Bool) → eqb (bit_or low (id_bit h.id)) low ≡ t → new ≡ (different (readers hs) && not (is_there h.id (readers hs)))
+    go true e = asked (eqb-true _ low e) ∙ (λ p. k.all_is p && not (is_there h.id (readers hs)))
+    go false e =
+        let n = eqb-false (bit_or low (id_bit h.id)) low e in
+        alone n ∙ k.all_is ∙ sym (and_yes (different (readers hs))) ∙ ap (λ (b : Bool). different (readers hs) && not b) (sym (new_alone hs h.id low (k.has_bit h.id z) n))

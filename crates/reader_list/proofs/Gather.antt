@@ -9,7 +9,7 @@ use lib.Dec.{ltb, eqb}
 use lib.ListN.{length, get_or}
 use borrow.Author.Tests.{lt-ltb, le-ltb, ltb-true, ltb-false, eqb-true}
 use Rattle.std.specs.Prelude.{Some, None}
-use Rattle.std.specs.List.{fold, filter, position, position_or_len}
+use Rattle.std.specs.List.{fold, filter, position, position_or_len, list_any}
 use Rattle.sets.proofs.Bools.{and_assoc, and_yes, or_assoc, or_no, neither}
 use Rattle.numbers.specs.Number.{rank_of}
 use Rattle.reader_list.specs.declared.heads.ReaderHead.{ReaderHead}
@@ -67,10 +67,10 @@ place_is i hs =
     (λ k. cond (ltb (place_len i hs k) (sym (length_readers hs) k)) (Some (place_len i hs k)) None)
     ∙ ap (λ (b : Bool). cond b (Some (place_of_id i (readers hs))) None) (place-there i (readers hs))
 
--- ---- every slot looked at
-pub has_fold : (i : ℕ) (b : Bool) (hs : List ReaderHead) → fold (λ b h. b || eqb h.id i) b hs ≡ (b || is_there i (readers hs))
+-- ---- every one looked at
+pub has_fold : (i : ℕ) (b : Bool) (ids : List ℕ) → fold (λ b j. b || eqb j i) b ids ≡ (b || list_any (λ j. eqb j i) ids)
 has_fold i b [] = sym (or_no b)
-has_fold i b (h ∷ hs) = has_fold i (b || eqb h.id i) hs ∙ or_assoc b (eqb h.id i) (is_there i (readers hs))
+has_fold i b (j ∷ ids) = has_fold i (b || eqb j i) ids ∙ or_assoc b (eqb j i) (list_any (λ j. eqb j i) ids)
 
 pub clean_fold : (b : Bool) (hs : List ReaderHead) → fold (λ b h. b && slot_coherent (head_view h)) b hs ≡ (b && slots_coherent (readers hs))
 clean_fold b [] = sym (and_yes b)

@@ -1,6 +1,6 @@
 // The slot that each call finds or would store, known before any is stored; and the one place that stores a slot.
-ghost use Rattle.std.specs.Prelude.{◌≡◌, set};
-ghost use Rattle.reader_list.specs.Ahead.{reader_slot, found_slot, match_slot, depart_slot, ack_slot, front_stored};
+ghost use Rattle.std.specs.Prelude.{◌≡◌, Ok, set};
+ghost use Rattle.reader_list.specs.Ahead.{reader_slot, found_slot, match_slot, depart_slot, ack_slot, front_stored, front_with};
 
 use crate::calls::{Acked, Match};
 use crate::heads::{AckedFrontier, ReaderHead};
@@ -97,6 +97,13 @@ pub fn front_stored(list: &[ReaderHead], id: u64, head: ReaderHead) -> AckedFron
     ensures { result ≡ front_stored list.now id head }
 {
     AckedFrontier::from_rank(joined(smallest_of_others(list, id), head))
+}
+
+// The frontier of the list that a change leaves which stores the slot.
+pub fn front_with(list: &[ReaderHead], id: u64, slot: Slot) -> AckedFrontier
+    ensures { result ≡ (front_with list.now id (Ok slot)).frontier }
+{
+    front_stored(list, id, slot.head)
 }
 
 // The slot is stored. (By an index: with `get_mut` the proof didn't close.)

@@ -30,9 +30,9 @@ use Rattle.reader_list.specs.declared.calls.Front.{Front}
 use Rattle.reader_list.specs.declared.changes.Slot.{Slot}
 use Rattle.reader_list.specs.Readers.{place_of_id}
 use Rattle.reader_list.specs.Slots.{readers, list_coherent, free_slot, frontier_of, list_rows, id_unknown, match_rows, depart_rows_of, front_of, found_of}
-use Rattle.reader_list.specs.Ahead.{front_stored, front_with, match_slot, depart_slot, ack_slot}
+use Rattle.reader_list.specs.Ahead.{front_stored, front_with, match_slot, depart_slot}
 use Rattle.reader_list.proofs.Gather.{id_known}
-use Rattle.reader_list.proofs.Foreseen.{match_front, depart_front, ack_front}
+use Rattle.reader_list.proofs.Foreseen.{match_front, depart_front, found_front}
 use Rattle.writer_send_buffer.specs.declared.flow.WriterSendBuffer.{WriterSendBuffer}
 use Rattle.writer_send_buffer.specs.declared.frontiers.Woken.{Woken}
 use Rattle.writer_send_buffer.specs.Flow.{ahead, stored, wakes}
@@ -142,11 +142,6 @@ module _ (hs : List ReaderHead) (f : WriterSendBuffer) (h : ReaderProxy) (unsent
     found_is : found ≡ record { answer = done; place = place; head = there }
     found_is = ap (λ (t : Bool). cond {A = Found} t (record { answer = done; place = place; head = there }) (record { answer = answer_of rows; place = 0; head = free_slot })) e
 
-    slot_is : ack_slot hs asked ≡ Ok (record { place = place; head = new })
-    slot_is =
-        ap (λ (r : Rows). unless {A = Result Slot Answer} r Err (Ok (record { place = place; head = new }))) rows_are
-        ∙ ap (λ (t : Bool). cond {A = Result Slot Answer} t (Ok (record { place = place; head = new })) (Err (answer_of rows))) e
-
     list_is : acked_list hs i z h ≡ set hs place new
     list_is =
         ap (λ (r : Rows). (unless {A = Left1 Answer (List ReaderHead)} r (λ no. record { result = no; first = hs }) (record { result = done; first = set hs place new })).first) rows_are
@@ -158,9 +153,7 @@ module _ (hs : List ReaderHead) (f : WriterSendBuffer) (h : ReaderProxy) (unsent
         ∙ ap (λ (n : ℕ). record { id = n; reliable = there.reliable; acked = acked_by z h }) (id_known i hs (clear rows (answer_of rows) refl (eqb-true _ 0 e) 11 refl))
 
     woken_is : ahead_woken ≡ ack_stored hs f i z h
-    woken_is =
-        ap (λ (x : ReaderHead). woken (acked_of f (front_stored hs i x))) head_is
-        ∙ ap (λ (x : Front). stored_of x f) (ap (front_with hs i) (sym slot_is) ∙ ack_front hs asked)
+    woken_is = ap (λ (x : Front). stored_of x f) (found_front hs asked (ap (λ (d : Found). is_done d.answer) found_is) (not_below _))
 
     taken_is : leaves found ahead_woken (set hs found.place head) ≡ ack_step hs f i z h unsent gaps
     taken_is = λ j. leaves found (woken_is j) (((λ k. set hs (found_is k).place (head_is k)) ∙ sym list_is) j)

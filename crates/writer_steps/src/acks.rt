@@ -8,7 +8,7 @@ use number_sets::SequenceNumberSet;
 use numbers::answers::earlier;
 use numbers::{Answer, Refusal, SequenceNumber};
 use reader_list::calls::matched_reader_lookup;
-use reader_list::changes::{Slot, front_stored, store};
+use reader_list::changes::{Slot, front_with, store};
 use reader_list::{Found, ReaderHead};
 use rtps_reader_proxy::ReaderProxy;
 use writer_send_buffer::{Told, WriterSendBuffer};
@@ -58,8 +58,12 @@ pub fn take_ack_nack(
         acked: acked_by(set, proxy),
         ..found.head
     };
+    let slot = Slot {
+        place: found.place,
+        head,
+    };
     let beside = with_flow(there_for(found, proxy), *flow);
-    let woken = flow.with_acked_frontier(front_stored(list, id, head));
+    let woken = flow.with_acked_frontier(front_with(list, id, slot));
     let nacked = proxy.handle_ack_nack_among(
         unsent,
         gaps,
@@ -70,8 +74,7 @@ pub fn take_ack_nack(
     );
     let moved = after(nacked.answer, woken, *flow);
     if moved.told.answer.is_done() {
-        let place = found.place;
-        store(list, Slot { place, head });
+        store(list, slot);
     }
     *flow = moved.flow;
     AckTold {

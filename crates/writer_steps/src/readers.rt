@@ -6,7 +6,7 @@ ghost use Rattle.writer_steps.specs.Readers.{change_step, match_step, depart_ste
 
 use crate::flows::with_flow;
 use numbers::Answer;
-use reader_list::changes::{Slot, departing, front_stored, matching, store};
+use reader_list::changes::{Slot, departing, front_with, matching, store};
 use reader_list::{Match, ReaderHead};
 use writer_send_buffer::{Told, WriterSendBuffer};
 
@@ -21,7 +21,7 @@ fn change(
 {
     match slot {
         Ok(slot) => {
-            let told = flow.set_acked_frontier(front_stored(list, id, slot.head));
+            let told = flow.set_acked_frontier(front_with(list, id, slot));
             if told.answer.is_done() {
                 store(list, slot);
             }

@@ -6,6 +6,6 @@ pub returns : goal.returns
 returns c =
     let r = c.fold.ensures.runs in
     let p = r.0 in
-    r.3 (λ b h. b || eqb h.now.id c.args.id) (λ x y r f' k. search rules)
-    ∙ fold_lent (λ b h. b || eqb h.id c.args.id) false p.items c.args.list.now ((c.iter.ensures.runs p p.seen).4 r.2 ∙ ap (λ s. s.rest.now) r.1 ∙ search rules)
-    ∙ has_fold c.args.id false c.args.list.now
+    r.3 (λ b j. b || eqb j.now c.args.id) (λ x y r f' k. search rules)
+    ∙ fold_lent (λ b j. b || eqb j c.args.id) false p.items c.args.ids.now ((c.iter.ensures.runs p p.seen).4 r.2 ∙ ap (λ s. s.rest.now) r.1 ∙ search rules)
+    ∙ has_fold c.args.id false c.args.ids.now

@@ -20,5 +20,5 @@ returns c =
       | else-is_done w ↦ w.list-is ∙ sym (ap (λ (t : Bool). cond t new hs) (done ∙ w.if-is_done.false))
     ] in
     ack_decided hs a.flow.now a.proxy a.unsent.now a.gaps.now a.id a.set found.result found.ensures c.acked_by.result c.acked_by.ensures
-    c.with_flow-beside.result (c.with_flow-beside.ensures ∙ ap (λ x. beside_flow x a.flow.now) c.there_for.ensures) c.front_stored.result c.front_stored.ensures woken.result woken.ensures
+    c.with_flow-beside.result (c.with_flow-beside.ensures ∙ ap (λ x. beside_flow x a.flow.now) c.there_for.ensures) c.front_with.result c.front_with.ensures woken.result woken.ensures
     nacked.result nacked.new.unsent nacked.new.gaps nacked.ensures moved.result moved.ensures c.if-is_done.list stored
